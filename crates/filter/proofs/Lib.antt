@@ -1,0 +1,5 @@
+pub mod Depths
+pub mod Bits
+pub mod Turns
+pub mod Opens
+pub mod Rows

@@ -1,0 +1,5 @@
+pub mod Embedding
+pub mod Filters
+pub mod Prefixes
+pub mod Masks
+pub mod Walks

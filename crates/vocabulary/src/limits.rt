@@ -1,0 +1,10 @@
+// The bounds of the product, each with its definition of the same name in specs/Limits.antt.
+
+// The names of a vocabulary at most, and so the greatest code.
+pub const MOST_NAMES: u16 = 512;
+
+// The steps of a filter at most.
+pub const MOST_STEPS: usize = 8;
+
+// The elements open at a time at most.
+pub const MOST_OPEN: usize = 32;
