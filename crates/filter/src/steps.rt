@@ -41,7 +41,7 @@ impl Test {
     {
         match self {
             Test::Any => true,
-            Test::Code(code) => 1 <= code && code <= MOST_NAMES,
+            Test::Code(code) => 1 <= code && code as usize <= MOST_NAMES,
         }
     }
 }

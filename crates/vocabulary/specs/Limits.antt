@@ -5,6 +5,10 @@ use Prim.Native.Nat.{ℕ}
 abbrev pub mostNames : ℕ
 mostNames = 512
 
+-- the bytes of a name in a vocabulary or a filter at most
+abbrev pub mostNameBytes : ℕ
+mostNameBytes = 32
+
 -- the steps of a filter at most
 abbrev pub mostSteps : ℕ
 mostSteps = 8

@@ -1,0 +1,12 @@
+use Prim.Native.Nat.{_≤_, _-_, _+_}
+use mathlib.Core.Path.{_≡_}
+use lib.ListN.{length, drop}
+use Rattle.std.specs.shelf.Lists.{leading}
+use Rattle.vocabulary.specs.Vocabularies.{isInLine}
+use Rattle.vocabulary.proofs.vocabularies.reading.line_len.Given as given
+
+abbrev pub Inv-loop-n : given.InvT-loop-n
+Inv-loop-n l = (l .n ≤ length (l .rest)) × (l .n + leading isInLine (drop (l .n) (l .rest)) ≡ leading isInLine (l .rest))
+
+abbrev pub μ-loop-n : given.MeasureT-loop-n
+μ-loop-n l = length (l .rest) - l .n
