@@ -1,10 +1,9 @@
 -- The elements of a message, and when a filter hits it. Assumes nothing.
 use mathlib.Core.Logic.{_⊎_}
-use mathlib.Core.Bool.{Bool, true, false, _||_}
+use mathlib.Core.Bool.{Bool, false, _||_}
 use mathlib.Core.List.{List, [], _∷_, _++_}
 use Prim.Native.Nat.{ℕ, _-_}
 use lib.ListN.{length, take}
-use Rattle.std.specs.Orderings.{Decides}
 use Rattle.filter.specs.declared.steps.Step.{Step}
 use Rattle.filter.specs.Embedding.{embeds, Embeds}
 use Rattle.message.specs.declared.events.Event.{Event}

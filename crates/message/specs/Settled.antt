@@ -48,17 +48,17 @@ pub data Example : Type 0 where
 
 abbrev pub examples : List Example
 examples =
-  hitting (child G ∷ []) (elem D (only G none)) false
-  ∷ hitting (below G ∷ []) (elem D (only G none)) true
-  ∷ hitting (child D ∷ below D ∷ []) (elem D none) false
-  ∷ hitting (star ∷ []) (elem Z none) true
-  ∷ hitting (child D ∷ star ∷ child S ∷ []) (elem D (only G (only S none))) true
-  ∷ hitting (child D ∷ star ∷ child S ∷ []) (elem D (only S none)) false
-  ∷ hitting (below G ∷ child S ∷ []) (elem G (only D (only G (only S none)))) true
-  ∷ hitting (below G ∷ below S ∷ []) (elem D (more (elem G none) (only S none))) false
-  ∷ sharing ((child D ∷ child G ∷ []) ∷ (child D ∷ child S ∷ []) ∷ []) 3
-  ∷ sharing ((child D ∷ []) ∷ (below D ∷ []) ∷ []) 2
-  ∷ []
+    hitting (child G ∷ []) (elem D (only G none)) false
+    ∷ hitting (below G ∷ []) (elem D (only G none)) true
+    ∷ hitting (child D ∷ below D ∷ []) (elem D none) false
+    ∷ hitting (star ∷ []) (elem Z none) true
+    ∷ hitting (child D ∷ star ∷ child S ∷ []) (elem D (only G (only S none))) true
+    ∷ hitting (child D ∷ star ∷ child S ∷ []) (elem D (only S none)) false
+    ∷ hitting (below G ∷ child S ∷ []) (elem G (only D (only G (only S none)))) true
+    ∷ hitting (below G ∷ below S ∷ []) (elem D (more (elem G none) (only S none))) false
+    ∷ sharing ((child D ∷ child G ∷ []) ∷ (child D ∷ child S ∷ []) ∷ []) 3
+    ∷ sharing ((child D ∷ []) ∷ (below D ∷ []) ∷ []) 2
+    ∷ []
 
 abbrev same : Bool → Bool → Bool
 same true b = b

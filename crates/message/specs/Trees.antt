@@ -1,7 +1,7 @@
 -- A message as a tree, and what a location path of XPath 1.0 selects in it: `/` is a child step, and `//` is
 -- descendant-or-self followed by child. Assumes nothing.
 use mathlib.Core.Path.{_≡_}
-use mathlib.Core.Bool.{Bool, true, false, cond}
+use mathlib.Core.Bool.{Bool, cond}
 use mathlib.Core.List.{List, [], _∷_, _++_}
 use Prim.Native.Nat.{ℕ}
 use Rattle.std.specs.Joined.{joined}

@@ -2,9 +2,11 @@
 ghost use mathlib.Core.Path.{_≡_};
 ghost use mathlib.Core.Bool.{cond};
 ghost use mathlib.Core.List.{[], _∷_};
+ghost use Prim.Native.Nat.{_≤_};
 ghost use lib.ListN.{length};
 ghost use Rattle.std.specs.Options.{mapped};
 ghost use Rattle.std.specs.declared.option.Option.the-variants.{Some, None};
+ghost use Rattle.vocabulary.specs.Limits.{mostSteps};
 ghost use Rattle.filter.specs.Filters.{anyChild, areTests, isFilter, stepAt};
 ghost use Rattle.filter.specs.Walks.{stepsOf};
 use super::Filter;
@@ -50,6 +52,13 @@ impl Filter {
         ensures answer { λ r. ⌜ r ≡ length (stepsOf (now (self .entry))) ⌝ }
     {
         self.count
+    }
+
+    pub fn steps(&self) -> &[Step]
+        ensures answer { λ r. ⌜ now r ≡ stepsOf (now (self .entry)) ⌝ }
+        ensures few { λ r. ⌜ length (now r) ≤ mostSteps ⌝ }
+    {
+        &self.steps[0..self.count]
     }
 
     // Step k, counted from 1.

@@ -4,6 +4,7 @@ ghost use Prim.Native.Nat.{_≤_, _<_};
 ghost use mathlib.Core.List.{[]};
 ghost use lib.ListN.{length};
 ghost use Rattle.std.specs.Options.{mapped};
+ghost use Rattle.std.specs.Slices.{found};
 ghost use Rattle.std.specs.shelf.Lists.{leading};
 ghost use Rattle.vocabulary.specs.Limits.{mostNameBytes};
 ghost use Rattle.vocabulary.specs.Names.{codeOf, IsCode, nameOf};
@@ -130,6 +131,7 @@ impl<'a> Vocabulary<'a> {
     // The name of a code; none where no line has it.
     pub fn name_of(&self, code: u16) -> Option<&'a [u8]>
         ensures answer { λ r. ⌜ mapped now r ≡ nameOf (namesOf (now (self .entry))) code ⌝ }
+        ensures short { λ r. ⌜ found r (λ name. length (now name) ≤ mostNameBytes) ⌝ }
     {
         let code = code as usize;
         if code == 0 || code > self.table.count {
