@@ -28,8 +28,8 @@ Behind Descendant ss path = ∥ ((e : ℕ) × (e ≤ length path) × Embeds ss (
 
 abbrev OneStep : Type 0
 OneStep = (ss : List Step) (s : Step) (path : List ℕ) (c : ℕ) →
-  (Embeds (ss ++ s ∷ []) (path ++ c ∷ []) → Fits (s .test) c × Behind (s .axis) ss path)
-  × (Fits (s .test) c × Behind (s .axis) ss path → Embeds (ss ++ s ∷ []) (path ++ c ∷ []))
+    (Embeds (ss ++ s ∷ []) (path ++ c ∷ []) → Fits (s .test) c × Behind (s .axis) ss path)
+    × (Fits (s .test) c × Behind (s .axis) ss path → Embeds (ss ++ s ∷ []) (path ++ c ∷ []))
 
 -- the steps lead from depth a to depth e
 abbrev pub Reach : ℕ → List Step → List ℕ → ℕ → Type 0
@@ -198,6 +198,7 @@ one-step ss s path c = (there, back)
         let l = deeper-lt (s .axis) (u .0) (suc (length path)) (u .2) in
         let q = local (path ++ c ∷ []) path 0 ss (u .0) (λ d h. code-push path c d (omega arith)) (omega arith) (u .1) in
         (subst (λ x. Fits (s .test) x) (code-last path c) (u .4), behind (s .axis) ss path (u .0) q (u .2)))
+
     back : Fits (s .test) c × Behind (s .axis) ss path → Embeds (ss ++ s ∷ []) (path ++ c ∷ [])
     back h =
         ∥∥₁-map (unbehind (s .axis) ss path (h .1)) (λ t.

@@ -52,7 +52,7 @@ embeds-snoc ss s path e h =
     let whole : take (suc n) (ss ++ s ∷ []) ≡ ss ++ s ∷ [] = take-all (suc n) (ss ++ s ∷ []) (omega arith) in
     let last : getD (ss ++ s ∷ []) n blank ≡ s = getD-append-seam ss s [] blank in
     let back : (m : ℕ) → m ≤ e → reaches (ss ++ s ∷ []) path n m ≡ embeds ss (take m path) =
-          (λ m l. front (ss ++ s ∷ []) path n m (omega arith) (omega arith) ∙ ap (λ x. embeds x (take m path)) (take-append-seam ss (s ∷ []))) in
+    (λ m l. front (ss ++ s ∷ []) path n m (omega arith) (omega arith) ∙ ap (λ x. embeds x (take m path)) (take-append-seam ss (s ∷ []))) in
     sym (ap (λ x. embeds x (take (suc e) path)) whole) ∙ sym (front (ss ++ s ∷ []) path (suc n) (suc e) (omega arith) h)
     ∙ (λ i. fits (last i .test) (getD path e 0) && linked (last i .axis) (reaches (ss ++ s ∷ []) path n) e)
     ∙ ap (λ b. fits (s .test) (getD path e 0) && b) (link-local (s .axis) (reaches (ss ++ s ∷ []) path n) (λ m. embeds ss (take m path)) e back)

@@ -26,11 +26,11 @@ pub record Turned (ss : List Step) (path masks : List ℕ) (d n : ℕ) (behind a
   pub left : (j : ℕ) → k ≤ j → j < n → getD masks j 0 ≡ column (reaches ss path (suc j)) d
 
 pub turn : (ss : List Step) (path masks : List ℕ) (d n : ℕ) (behind above hit : Bool) (k : ℕ) → Turned ss path masks d n behind above hit k
-  → k < n → n ≤ 8 → (behind' hit' : Bool) (mask' : ℕ)
-  → hit' ≡ (fits (getD ss k blank .test) (getD path d 0) && pick (getD ss k blank .axis) behind above)
-  → behind' ≡ newest (getD masks k 0) d
-  → mask' ≡ getD masks k 0 + cond hit' (2 ^ d) 0
-  → Turned ss path (set masks k mask') d n behind' (not (eqb (getD masks k 0) 0)) hit' (k + 1)
+    → k < n → n ≤ 8 → (behind' hit' : Bool) (mask' : ℕ)
+    → hit' ≡ (fits (getD ss k blank .test) (getD path d 0) && pick (getD ss k blank .axis) behind above)
+    → behind' ≡ newest (getD masks k 0) d
+    → mask' ≡ getD masks k 0 + cond hit' (2 ^ d) 0
+    → Turned ss path (set masks k mask') d n behind' (not (eqb (getD masks k 0) 0)) hit' (k + 1)
 turn ss path masks d n behind above hit k t kn n8 behind' hit' mask' eh eb em =
     subst (λ m. Turned ss path (set masks k mask') d n behind' (not (eqb (getD masks k 0) 0)) hit' m) (sym (add-one k)) (record {
       eight = length-set _ _ _ ∙ t .eight;
@@ -43,22 +43,24 @@ turn ss path masks d n behind above hit k t kn n8 behind' hit' mask' eh eb em =
   where
     old : getD masks k 0 ≡ column (reaches ss path (suc k)) d
     old = t .left k (omega arith) kn
+
     got : hit' ≡ reaches ss path (suc k) (suc d)
     got = let p = t .parent in let a = t .ancestor in eh ∙ (λ i. fits (getD ss k blank .test) (getD path d 0) && pick (getD ss k blank .axis) (p i) (a i))
+
     new : getD (set masks k mask') k 0 ≡ column (reaches ss path (suc k)) (suc d)
     new = let len = t .eight in getD-set-same masks k mask' 0 (omega arith) ∙ em ∙ (λ i. old i + cond (got i) (2 ^ d) 0)
 
 abbrev pub Cleared : List ℕ → List ℕ → ℕ → ℕ → Type 0
 Cleared old masks d i =
-  ((j : ℕ) → j < i → getD masks j 0 ≡ getD old j 0 % 2 ^ d)
-  × ((j : ℕ) → i ≤ j → getD masks j 0 ≡ getD old j 0)
+    ((j : ℕ) → j < i → getD masks j 0 ≡ getD old j 0 % 2 ^ d)
+    × ((j : ℕ) → i ≤ j → getD masks j 0 ≡ getD old j 0)
 
 pub clear-more : (old masks : List ℕ) (d i : ℕ) → d < 32 → i < length masks → Cleared old masks d i → Cleared old (set masks i (bitAnd (getD masks i 0) ((1 * 2 ^ d) % 2 ^ 32 - 1))) d (i + 1)
 clear-more old masks d i h l t = (
   λ j b. ⊎-elim
-    (λ e. subst (λ n. getD (set masks i v) n 0 ≡ getD old n 0 % 2 ^ d) (sym e) (getD-set-same masks i v 0 l ∙ ap (λ x. bitAnd (getD masks i 0) (x - 1)) (one-shl d 32 h) ∙ and-mask (getD masks i 0) d ∙ ap (λ x. x % 2 ^ d) (t .1 i (omega arith))))
-    (λ ne. getD-set-other masks i j v 0 ne ∙ t .0 j (omega arith))
-    (cases-eq j i),
+      (λ e. subst (λ n. getD (set masks i v) n 0 ≡ getD old n 0 % 2 ^ d) (sym e) (getD-set-same masks i v 0 l ∙ ap (λ x. bitAnd (getD masks i 0) (x - 1)) (one-shl d 32 h) ∙ and-mask (getD masks i 0) d ∙ ap (λ x. x % 2 ^ d) (t .1 i (omega arith))))
+      (λ ne. getD-set-other masks i j v 0 ne ∙ t .0 j (omega arith))
+      (cases-eq j i),
   λ j b. getD-set-other masks i j v 0 (omega arith) ∙ t .1 j (omega arith),
 )
   where

@@ -91,5 +91,5 @@ Before Descendant ss path = Above ss path
 -- with one more step and one more open element
 abbrev pub OneMoreStep : Type 0
 OneMoreStep = (ss : List Step) (s : Step) (path : List ℕ) (c : ℕ) →
-  (Embeds (ss ++ s ∷ []) (path ++ c ∷ []) → Fits (s .test) c × Before (s .axis) ss path)
-  × (Fits (s .test) c × Before (s .axis) ss path → Embeds (ss ++ s ∷ []) (path ++ c ∷ []))
+    (Embeds (ss ++ s ∷ []) (path ++ c ∷ []) → Fits (s .test) c × Before (s .axis) ss path)
+    × (Fits (s .test) c × Before (s .axis) ss path → Embeds (ss ++ s ∷ []) (path ++ c ∷ []))

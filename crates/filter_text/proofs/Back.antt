@@ -50,9 +50,9 @@ leads [] (b ∷ s) e h = ap (λ x. leading isNameByte (x ∷ s)) h
 leads (b ∷ w) rest e h =
     ⊎-elim
     (λ y.
-        let f = sym (cond-true (isNameByte b) (1 + leading isNameByte w) 0 y) ∙ e in
-        let g = leads w rest (omega (arith, f)) h in
-        cond-true (isNameByte b) (1 + leading isNameByte (w ++ rest)) 0 y ∙ omega (arith, g))
+    let f = sym (cond-true (isNameByte b) (1 + leading isNameByte w) 0 y) ∙ e in
+    let g = leads w rest (omega (arith, f)) h in
+    cond-true (isNameByte b) (1 + leading isNameByte (w ++ rest)) 0 y ∙ omega (arith, g))
     (λ n. absurd (omega (arith, sym (cond-false (isNameByte b) (1 + leading isNameByte w) 0 n) ∙ e)))
     (cases-bool (isNameByte b))
 
@@ -154,6 +154,7 @@ reading names each once text ss = (there, here)
         let f = forth names mostSteps [] 0 text ss (t .1) in
         let all : f .steps ≡ ss = sym (f .all) in
         subst (IsText names text) all (record { some = step-some names text (f .steps) (leb-true _ _ (size .0)) (f .same); few = f .few; known = known-none names 1 (f .steps) (f .known); same = f .same })
+
     here : IsText names text ss → readSteps names text ≡ Ok ss
     here is =
         let known = none-known names 1 ss (is .known) in

@@ -27,9 +27,9 @@ module _ (names : List (List ℕ)) (steps : List Step) where
   -- the steps before i have a text of len bytes
   abbrev pub Measured : ℕ → ℕ → Type 0
   Measured len i =
-    (len ≤ 34 * i)
-    × (unknownFrom names (i + 1) (drop i steps) ≡ unknownFrom names 1 steps)
-    × (len + length (textOf names (drop i steps)) ≡ length (textOf names steps))
+      (len ≤ 34 * i)
+      × (unknownFrom names (i + 1) (drop i steps) ≡ unknownFrom names 1 steps)
+      × (len + length (textOf names (drop i steps)) ≡ length (textOf names steps))
 
   module _ (len i : ℕ) (so : Measured len i) where
     pub measured-all : length steps ≤ i → Ok len ≡ textLength names steps
@@ -57,10 +57,11 @@ module _ (names : List (List ℕ)) (steps : List Step) where
           let lb : length b ≡ length (valueOr (testText names (getD steps i blank .test)) []) = ap (λ o. length (valueOr o [])) eb in
           let both = length-append (slashes (getD steps i blank .axis)) (valueOr (testText names (getD steps i blank .test)) []) in
           let split = ap length (at-drop-more (textOf names) steps i blank l) ∙ length-append (stepText names (getD steps i blank)) (textOf names (drop (i + 1) steps)) in
-          let whole = so .2 in
-          (omega arith,
-           sym (cond-true _ _ _ (ap isSome (sym eb))) ∙ sym (at-drop-more (unknownFrom names (i + 1)) steps i blank l) ∙ so .1,
-           omega arith)
+          let whole = so .2 in (
+            omega arith,
+            sym (cond-true _ _ _ (ap isSome (sym eb))) ∙ sym (at-drop-more (unknownFrom names (i + 1)) steps i blank l) ∙ so .1,
+            omega arith,
+          )
 
   -- the buffer begins with the text of the steps before i
   abbrev pub Put : ℕ → List ℕ → ℕ → Type 0
@@ -88,16 +89,17 @@ module _ (names : List (List ℕ)) (steps : List Step) where
     put-known none = all-getD (λ s. isSome (testText names (s .test)) ≡ true) steps i blank l (none-known names 1 steps none)
 
     pub put-more : (place : ℕ) (buffer : List ℕ) → Put place buffer i → (a b : List ℕ) → a ≡ slashes (getD steps i blank .axis) → Some b ≡ testText names (getD steps i blank .test)
-      → (one two : List ℕ) (p q : ℕ) → p ≡ place + length a → take (place + length a) one ≡ take place buffer ++ a → q ≡ p + length b → take (p + length b) two ≡ take p one ++ b → Put q two (i + 1)
+        → (one two : List ℕ) (p q : ℕ) → p ≡ place + length a → take (place + length a) one ≡ take place buffer ++ a → q ≡ p + length b → take (p + length b) two ≡ take p one ++ b → Put q two (i + 1)
     put-more place buffer put a b ea eb one two p q ep ea′ eq eb′ =
         let la = ap length ea in
         let lb : length b ≡ length (valueOr (testText names (getD steps i blank .test)) []) = ap (λ o. length (valueOr o [])) eb in
         let more = length-more in
         let size = put .0 in
-        let same : a ++ b ≡ stepText names (getD steps i blank) = (λ j. ea j ++ valueOr (eb j) []) in
-        (omega arith,
-         ap (λ n. take n two) eq ∙ eb′ ∙ ap (λ n. take n one ++ b) ep ∙ ap (λ x. x ++ b) (ea′ ∙ ap (λ x. x ++ a) (put .1)) ∙ append-assoc (textOf names (take i steps)) a b
-         ∙ ap (λ x. textOf names (take i steps) ++ x) same ∙ sym text-more)
+        let same : a ++ b ≡ stepText names (getD steps i blank) = (λ j. ea j ++ valueOr (eb j) []) in (
+          omega arith,
+          ap (λ n. take n two) eq ∙ eb′ ∙ ap (λ n. take n one ++ b) ep ∙ ap (λ x. x ++ b) (ea′ ∙ ap (λ x. x ++ a) (put .1)) ∙ append-assoc (textOf names (take i steps)) a b
+              ∙ ap (λ x. textOf names (take i steps) ++ x) same ∙ sym text-more,
+        )
 
   pub put-all : (place : ℕ) (buffer : List ℕ) (i : ℕ) → length steps ≤ i → Put place buffer i → (place ≡ length (textOf names steps)) × (take place buffer ≡ textOf names steps)
   put-all place buffer i l put = let e = take-all i steps l in (put .0 ∙ ap (λ x. length (textOf names x)) e, put .1 ∙ ap (textOf names) e)

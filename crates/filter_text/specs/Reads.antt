@@ -77,7 +77,7 @@ readSteps names text = cond (between 1 mostText (length text)) (readFrom names m
 -- exactly the texts of filters are accepted, with their steps
 abbrev pub Reading : Type 0
 Reading = (names : List (List ℕ)) → EachName names → NoTwo names → (text : List ℕ) (ss : List Step) →
-  (readSteps names text ≡ Ok ss → IsText names text ss) × (IsText names text ss → readSteps names text ≡ Ok ss)
+    (readSteps names text ≡ Ok ss → IsText names text ss) × (IsText names text ss → readSteps names text ≡ Ok ss)
 
 -- accepted, or the fault
 abbrev pub verdict : Result (List Step) Fault → Result (Unit {0}) Fault

@@ -14,12 +14,12 @@ use filter::Axis;
 use filter::Filter;
 use filter::Step;
 use filter::Test;
-use vocabulary::names::name_len;
 use vocabulary::Fault;
 use vocabulary::MOST_NAME_BYTES;
 use vocabulary::MOST_STEPS;
 use vocabulary::Question;
 use vocabulary::Vocabulary;
+use vocabulary::names::name_len;
 
 // The bytes of a filter's text at most.
 const MOST_TEXT: usize = 272;
@@ -37,7 +37,11 @@ fn axis_of(rest: &[u8]) -> Option<(Axis, &[u8])>
 }
 
 // The test at the front of `rest`, which stands at `place`, and what comes after it.
-fn test_of<'a>(rest: &'a [u8], place: usize, vocabulary: &Vocabulary) -> Result<(Test, &'a [u8]), Fault>
+fn test_of<'a>(
+    rest: &'a [u8],
+    place: usize,
+    vocabulary: &Vocabulary,
+) -> Result<(Test, &'a [u8]), Fault>
     requires low { ⌜ place ≤ mostText ⌝ }
     ensures answer { λ r. ⌜ elim r [ Ok x ↦ testOf (namesOf (now (vocabulary .entry))) place (now (rest .entry)) ≡ Ok (x .0, now (x .1)) | Err f ↦ testOf (namesOf (now (vocabulary .entry))) place (now (rest .entry)) ≡ Err f ] ⌝ }
     ensures shorter { λ r. ⌜ elim r [ Ok x ↦ length (now (x .1)) ≤ length (now (rest .entry)) | Err f ↦ Unit {0} ] ⌝ }
@@ -48,26 +52,42 @@ fn test_of<'a>(rest: &'a [u8], place: usize, vocabulary: &Vocabulary) -> Result<
     let place = place as u32;
     let len = name_len(rest);
     if len == 0 {
-        return Err(Fault { question: Question::StepNoTest, place });
+        return Err(Fault {
+            question: Question::StepNoTest,
+            place,
+        });
     }
     if len > MOST_NAME_BYTES {
-        return Err(Fault { question: Question::StepNameLong, place });
+        return Err(Fault {
+            question: Question::StepNameLong,
+            place,
+        });
     }
     let (name, after) = rest.split_at(len);
     match vocabulary.code_of(name) {
         Some(code) => Ok((Test::Code(code), after)),
-        None => Err(Fault { question: Question::StepNameUnknown, place }),
+        None => Err(Fault {
+            question: Question::StepNameUnknown,
+            place,
+        }),
     }
 }
 
 // The step at the front of `rest`, which stands at `place`, and what comes after it.
-fn step_of<'a>(rest: &'a [u8], place: usize, vocabulary: &Vocabulary) -> Result<(Step, &'a [u8]), Fault>
+fn step_of<'a>(
+    rest: &'a [u8],
+    place: usize,
+    vocabulary: &Vocabulary,
+) -> Result<(Step, &'a [u8]), Fault>
     requires low { ⌜ place + length (now rest) ≤ mostText ⌝ }
     ensures answer { λ r. ⌜ elim r [ Ok x ↦ stepOf (namesOf (now (vocabulary .entry))) place (now (rest .entry)) ≡ Ok (x .0, now (x .1)) | Err f ↦ stepOf (namesOf (now (vocabulary .entry))) place (now (rest .entry)) ≡ Err f ] ⌝ }
     ensures shorter { λ r. ⌜ elim r [ Ok x ↦ length (now (x .1)) < length (now (rest .entry)) | Err f ↦ Unit {0} ] ⌝ }
 {
     let Some((axis, after)) = axis_of(rest) else {
-        return Err(Fault { question: Question::StepNoSlash, place: place as u32 });
+        return Err(Fault {
+            question: Question::StepNoSlash,
+            place: place as u32,
+        });
     };
     let (test, end) = test_of(after, place + (rest.len() - after.len()), vocabulary)?;
     Ok((Step { axis, test }, end))
@@ -78,13 +98,19 @@ fn read_row(text: &[u8], vocabulary: &Vocabulary) -> Result<([Step; MOST_STEPS],
     requires small { ⌜ length (now text) ≤ mostText ⌝ }
     ensures answer { λ r. ⌜ RowRead (namesOf (now (vocabulary .entry))) (now (text .entry)) r ⌝ }
 {
-    let mut steps = [Step { axis: Axis::Child, test: Test::Any }; MOST_STEPS];
+    let mut steps = [Step {
+        axis: Axis::Child,
+        test: Test::Any,
+    }; MOST_STEPS];
     let mut count = 0;
     let mut place = 0;
     let mut rest = text;
     while !rest.is_empty() {
         if count == MOST_STEPS {
-            return Err(Fault { question: Question::TooManySteps, place: place as u32 });
+            return Err(Fault {
+                question: Question::TooManySteps,
+                place: place as u32,
+            });
         }
         let (step, after) = step_of(rest, place, vocabulary)?;
         steps[count] = step;
@@ -104,7 +130,10 @@ pub fn read_filter(text: &[u8], vocabulary: &Vocabulary, filter: &mut Filter) ->
     ensures theorem { λ r. ⌜ Reading ⌝ }
 {
     if text.is_empty() || text.len() > MOST_TEXT {
-        return Err(Fault { question: Question::FilterSize, place: 0 });
+        return Err(Fault {
+            question: Question::FilterSize,
+            place: 0,
+        });
     }
     let (steps, count) = read_row(text, vocabulary)?;
     if let Some(read) = Filter::from_steps(&steps[0..count]) {

@@ -51,7 +51,10 @@ fn text_len(steps: &[Step], vocabulary: &Vocabulary) -> Result<usize, Fault>
     for (i, step) in steps.iter().enumerate() {
         match test_text(step.test, vocabulary) {
             Some(text) => len += axis_text(step.axis).len() + text.len(),
-            None => return Err(Fault { question: Question::CodeUnknown, place: i as u32 + 1 }),
+            None => return Err(Fault {
+                question: Question::CodeUnknown,
+                place: i as u32 + 1,
+            }),
         }
     }
     Ok(len)
@@ -97,7 +100,11 @@ fn clear_from(buffer: &mut [u8], place: usize)
 }
 
 // Writes the filter's text and then zeros into the buffer, and answers the text's length; a refusal writes nothing.
-pub fn write_filter(filter: &Filter, vocabulary: &Vocabulary, buffer: &mut [u8]) -> Result<usize, Fault>
+pub fn write_filter(
+    filter: &Filter,
+    vocabulary: &Vocabulary,
+    buffer: &mut [u8],
+) -> Result<usize, Fault>
     ensures answer { λ r. ⌜ r ≡ writeAnswer (namesOf (now (vocabulary .entry))) (stepsOf (now (filter .entry))) (length (now (buffer .entry))) ⌝ }
     ensures buffer { λ r. ⌜ now (buffer .exit) ≡ filled r (textOf (namesOf (now (vocabulary .entry))) (stepsOf (now (filter .entry)))) (now (buffer .entry)) ⌝ }
     ensures back { λ r. ⌜ made r (λ n. readSteps (namesOf (now (vocabulary .entry))) (take n (now (buffer .exit))) ≡ Ok (stepsOf (now (filter .entry)))) ⌝ }
@@ -105,7 +112,10 @@ pub fn write_filter(filter: &Filter, vocabulary: &Vocabulary, buffer: &mut [u8])
     let steps = filter.steps();
     let len = text_len(steps, vocabulary)?;
     if len > buffer.len() {
-        return Err(Fault { question: Question::BufferShort, place: 0 });
+        return Err(Fault {
+            question: Question::BufferShort,
+            place: 0,
+        });
     }
     let place = put_steps(steps, vocabulary, buffer);
     clear_from(buffer, place);

@@ -64,9 +64,10 @@ module _ (names : List (List ℕ)) (once : NoTwo names) (s : List ℕ) where
   code-by : (r : Option ℕ) → codeOf names s ≡ r → IsCode names s r
   code-by None h = λ k q. let t = name-some names k s q in code-absent names s (length names) h (t .0) (t .2) (t .3)
   code-by (Some k) h =
-      let t = code-found names s (length names) k h in
-      (ap (nameOf names) (t .1) ∙ nth-getD names (t .0) [] (t .2) ∙ ap (λ x. Some x) (t .3),
-       λ j q. let u = name-some names j s q in u .1 ∙ ap suc (apart names once (u .0) (t .0) (u .2) (t .2) (u .3 ∙ sym (t .3))) ∙ sym (t .1))
+      let t = code-found names s (length names) k h in (
+        ap (nameOf names) (t .1) ∙ nth-getD names (t .0) [] (t .2) ∙ ap (λ x. Some x) (t .3),
+        λ j q. let u = name-some names j s q in u .1 ∙ ap suc (apart names once (u .0) (t .0) (u .2) (t .2) (u .3 ∙ sym (t .3))) ∙ sym (t .1),
+      )
 
   pub is-code : (r : Option ℕ) → r ≡ codeOf names s → IsCode names s r
   is-code r e = code-by r (sym e)

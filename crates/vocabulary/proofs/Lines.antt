@@ -59,15 +59,18 @@ module _ (text : List ℕ) (t : Table) (r : Rows text t) (ch : Chains text t) (r
   pub rows-grown : Rows text (record { lines = set (t .lines) (t .count) l; heads = set (t .heads) b (t .count + 1); count = t .count + 1 })
   rows-grown =
       let few = r .0 in
-      let size = length-cut text l order inside in
-      (omega arith, length-set _ _ _ ∙ r .1, length-set _ _ _ ∙ r .2,
-       each (λ k. (getD (set (t .lines) (t .count) l) k noLine .start ≤ getD (set (t .lines) (t .count) l) k noLine .end) × (getD (set (t .lines) (t .count) l) k noLine .end ≤ length text))
-         (λ k h. subst (λ x. (x .start ≤ x .end) × (x .end ≤ length text)) (sym (line-old k h)) (r .3 k h))
-         (subst (λ x. (x .start ≤ x .end) × (x .end ≤ length text)) (sym line-new) (order, inside)),
-       subst (λ names. (k : ℕ) → k < t .count + 1 → length (getD names k []) ≤ mostNameBytes) (sym names-grown)
-         (each (λ k. length (getD (namesIn text t ++ cut text l ∷ []) k []) ≤ mostNameBytes)
-           (λ k h. subst (λ x. length x ≤ mostNameBytes) (sym (old k h)) (r .4 k h))
-           (subst (λ x. length x ≤ mostNameBytes) (sym new) (omega arith))))
+      let size = length-cut text l order inside in (
+        omega arith,
+        length-set _ _ _ ∙ r .1,
+        length-set _ _ _ ∙ r .2,
+        each (λ k. (getD (set (t .lines) (t .count) l) k noLine .start ≤ getD (set (t .lines) (t .count) l) k noLine .end) × (getD (set (t .lines) (t .count) l) k noLine .end ≤ length text))
+            (λ k h. subst (λ x. (x .start ≤ x .end) × (x .end ≤ length text)) (sym (line-old k h)) (r .3 k h))
+            (subst (λ x. (x .start ≤ x .end) × (x .end ≤ length text)) (sym line-new) (order, inside)),
+        subst (λ names. (k : ℕ) → k < t .count + 1 → length (getD names k []) ≤ mostNameBytes) (sym names-grown)
+            (each (λ k. length (getD (namesIn text t ++ cut text l ∷ []) k []) ≤ mostNameBytes)
+            (λ k h. subst (λ x. length x ≤ mostNameBytes) (sym (old k h)) (r .4 k h))
+            (subst (λ x. length x ≤ mostNameBytes) (sym new) (omega arith))),
+      )
 
   first-cond : (h : ℕ) → h < buckets → getD (set (t .heads) b (t .count + 1)) h 0 ≡ latest (namesIn text t ++ cut text l ∷ []) h (suc (t .count))
   first-cond h lt =
@@ -75,16 +78,17 @@ module _ (text : List ℕ) (t : Table) (r : Rows text t) (ch : Chains text t) (r
       let wide = r .2 in
       ⊎-elim
       (λ e. subst (λ x. getD (set (t .heads) b (t .count + 1)) x 0 ≡ t .count + 1) (sym e) (getD-set-same (t .heads) b (t .count + 1) 0 (omega arith)) ∙ add-one (t .count)
-            ∙ sym (cond-true _ _ _ (eq-eqb _ _ (ap bucketOf new ∙ sym is ∙ sym e))))
+      ∙ sym (cond-true _ _ _ (eq-eqb _ _ (ap bucketOf new ∙ sym is ∙ sym e))))
       (λ ne. getD-set-other (t .heads) b h (t .count + 1) 0 ne ∙ ch .0 h lt ∙ sym (latest-local (namesIn text t) (cut text l ∷ []) h (t .count) (omega arith))
-            ∙ sym (cond-false _ _ _ (ne-eqb _ _ (λ q. ne (sym q ∙ ap bucketOf new ∙ sym is)))))
+      ∙ sym (cond-false _ _ _ (ne-eqb _ _ (λ q. ne (sym q ∙ ap bucketOf new ∙ sym is)))))
       (cases-eq h b)
 
   pub chains-grown : Chains text (record { lines = set (t .lines) (t .count) l; heads = set (t .heads) b (t .count + 1); count = t .count + 1 })
   chains-grown =
       let n = length-names text t r in
-      subst (λ names. ((h : ℕ) → h < buckets → getD (set (t .heads) b (t .count + 1)) h 0 ≡ latest names h (t .count + 1)) × ((k : ℕ) → k < t .count + 1 → getD (set (t .lines) (t .count) l) k noLine .next ≡ latest names (bucketOf (getD names k [])) k)) (sym names-grown)
-      ((λ h lt. first-cond h lt ∙ ap (latest (namesIn text t ++ cut text l ∷ []) h) (sym (add-one (t .count)))),
-       each (λ k. getD (set (t .lines) (t .count) l) k noLine .next ≡ latest (namesIn text t ++ cut text l ∷ []) (bucketOf (getD (namesIn text t ++ cut text l ∷ []) k [])) k)
-         (λ k h. ap (λ x. x .next) (line-old k h) ∙ ch .1 k h ∙ ap (λ x. latest (namesIn text t) (bucketOf x) k) (sym (old k h)) ∙ sym (latest-local (namesIn text t) (cut text l ∷ []) _ k (omega arith)))
-         (ap (λ x. x .next) line-new ∙ next ∙ ch .0 b within ∙ ap (λ x. latest (namesIn text t) x (t .count)) (is ∙ ap bucketOf (sym new)) ∙ sym (latest-local (namesIn text t) (cut text l ∷ []) _ (t .count) (omega arith))))
+      subst (λ names. ((h : ℕ) → h < buckets → getD (set (t .heads) b (t .count + 1)) h 0 ≡ latest names h (t .count + 1)) × ((k : ℕ) → k < t .count + 1 → getD (set (t .lines) (t .count) l) k noLine .next ≡ latest names (bucketOf (getD names k [])) k)) (sym names-grown) (
+        (λ h lt. first-cond h lt ∙ ap (latest (namesIn text t ++ cut text l ∷ []) h) (sym (add-one (t .count)))),
+        each (λ k. getD (set (t .lines) (t .count) l) k noLine .next ≡ latest (namesIn text t ++ cut text l ∷ []) (bucketOf (getD (namesIn text t ++ cut text l ∷ []) k [])) k)
+            (λ k h. ap (λ x. x .next) (line-old k h) ∙ ch .1 k h ∙ ap (λ x. latest (namesIn text t) (bucketOf x) k) (sym (old k h)) ∙ sym (latest-local (namesIn text t) (cut text l ∷ []) _ k (omega arith)))
+            (ap (λ x. x .next) line-new ∙ next ∙ ch .0 b within ∙ ap (λ x. latest (namesIn text t) x (t .count)) (is ∙ ap bucketOf (sym new)) ∙ sym (latest-local (namesIn text t) (cut text l ∷ []) _ (t .count) (omega arith))),
+      )

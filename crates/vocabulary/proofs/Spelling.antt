@@ -64,9 +64,9 @@ fine-push names n name u fine ok =
       few = omega arith;
       each = λ k h. ⊎-elim (λ e. subst (λ x. isShortName x ≡ true) (sym (ap (λ m. getD (names ++ name ∷ []) m []) e ∙ new)) (t .0)) (λ ne. let l : k < length names = omega arith in ap isShortName (old k l) ∙ fine .each k l) (cases-eq k (length names));
       once = λ j k jk h e. ⊎-elim
-        (λ q. let l : j < length names = omega arith in code-absent names name (length names) (none-from _ (t .2)) j l (sym (old j l) ∙ e ∙ ap (λ m. getD (names ++ name ∷ []) m []) q ∙ new))
-        (λ ne. let l : k < length names = omega arith in let m : j < length names = omega arith in fine .once j k jk l (sym (old j m) ∙ e ∙ old k l))
-        (cases-eq k (length names));
+          (λ q. let l : j < length names = omega arith in code-absent names name (length names) (none-from _ (t .2)) j l (sym (old j l) ∙ e ∙ ap (λ m. getD (names ++ name ∷ []) m []) q ∙ new))
+          (λ ne. let l : k < length names = omega arith in let m : j < length names = omega arith in fine .once j k jk l (sym (old j m) ∙ e ∙ old k l))
+          (cases-eq k (length names));
     }
 
 -- reading to spelling
@@ -83,16 +83,16 @@ end-by false names n begun out z fine e = never-ok _ out e
 module _ (names : Names) (n : ℕ) (begun : List ℕ) (b : ℕ) (s : List ℕ) (out : Names) (fine : Fine names) where
   -- the line ends here
   ended-by : (r : Result (Unit {0}) Fault) → admitted names n begun ≡ r → b ≡ feed → ((m : ℕ) → Fine (names ++ begun ∷ []) → readLines (names ++ begun ∷ []) m [] s ≡ Ok out → Reads (names ++ begun ∷ []) [] s out)
-    → chain r (λ _. readLines (names ++ begun ∷ []) (n + (length begun + 1)) [] s) ≡ Ok out → Reads names begun (b ∷ s) out
+      → chain r (λ _. readLines (names ++ begun ∷ []) (n + (length begun + 1)) [] s) ≡ Ok out → Reads names begun (b ∷ s) out
   ended-by (Ok u) a f back e =
       let t = back (n + (length begun + 1)) (fine-push names n begun u fine a) e in
       (t .0, ap (λ x. joined line names ++ (begun ++ x ∷ s)) f ∙ ap (λ x. joined line names ++ x) (sym (append-assoc begun (feed ∷ []) s)) ∙ sym (append-assoc (joined line names) (begun ++ feed ∷ []) s) ∙ ap (λ x. x ++ s) (joined-more line [] names begun) ∙ t .1)
   ended-by (Err f) a q back e = never-ok f out e
 
   step-by : (t : Bool) → eqb b feed ≡ t
-    → ((m : ℕ) → Fine (names ++ begun ∷ []) → readLines (names ++ begun ∷ []) m [] s ≡ Ok out → Reads (names ++ begun ∷ []) [] s out)
-    → (readLines names n (begun ++ b ∷ []) s ≡ Ok out → Reads names (begun ++ b ∷ []) s out)
-    → cond t (chain (admitted names n begun) (λ _. readLines (names ++ begun ∷ []) (n + (length begun + 1)) [] s)) (readLines names n (begun ++ b ∷ []) s) ≡ Ok out → Reads names begun (b ∷ s) out
+      → ((m : ℕ) → Fine (names ++ begun ∷ []) → readLines (names ++ begun ∷ []) m [] s ≡ Ok out → Reads (names ++ begun ∷ []) [] s out)
+      → (readLines names n (begun ++ b ∷ []) s ≡ Ok out → Reads names (begun ++ b ∷ []) s out)
+      → cond t (chain (admitted names n begun) (λ _. readLines (names ++ begun ∷ []) (n + (length begun + 1)) [] s)) (readLines names n (begun ++ b ∷ []) s) ≡ Ok out → Reads names begun (b ∷ s) out
   step-by true f ended on e = ended-by (admitted names n begun) refl (eqb-true b feed f) ended e
   step-by false f ended on e = let t = on e in (t .0, ap (λ x. joined line names ++ x) (sym (append-assoc begun (b ∷ []) s)) ∙ t .1)
 
@@ -177,6 +177,7 @@ accepts text names = (there, back)
         let size = and-parts _ _ (t .0) in
         let r = read-spells [] 0 [] text names none-fine (t .1) in
         record { size = (leb-true 1 (length text) (size .0), leb-true (length text) mostBytes (size .1)); lines = r .1; few = r .0 .few; each = r .0 .each; once = r .0 .once }
+
     back : Spells text names → readNames text ≡ Ok names
     back s =
         sized text (s .size .0) (s .size .1) ∙ ap (readLines [] 0 []) (s .lines) ∙ spelled-read names [] 0 (record { few = s .few; each = s .each; once = s .once })

@@ -47,17 +47,17 @@ latest names h (suc k) = cond (eqb (bucketOf (getD names k [])) h) (suc k) (late
 -- the table has a place for each name and a head for each bucket, and its lines lie in the text and are short
 abbrev pub Rows : List ℕ → Table → Type 0
 Rows text t =
-  (t .count ≤ mostNames)
-  × (length (t .lines) ≡ mostNames)
-  × (length (t .heads) ≡ buckets)
-  × ((k : ℕ) → k < t .count → (getD (t .lines) k noLine .start ≤ getD (t .lines) k noLine .end) × (getD (t .lines) k noLine .end ≤ length text))
-  × ((k : ℕ) → k < t .count → length (getD (namesIn text t) k []) ≤ mostNameBytes)
+    (t .count ≤ mostNames)
+    × (length (t .lines) ≡ mostNames)
+    × (length (t .heads) ≡ buckets)
+    × ((k : ℕ) → k < t .count → (getD (t .lines) k noLine .start ≤ getD (t .lines) k noLine .end) × (getD (t .lines) k noLine .end ≤ length text))
+    × ((k : ℕ) → k < t .count → length (getD (namesIn text t) k []) ≤ mostNameBytes)
 
 -- every bucket's chain has its codes, falling
 abbrev pub Chains : List ℕ → Table → Type 0
 Chains text t =
-  ((h : ℕ) → h < buckets → getD (t .heads) h 0 ≡ latest (namesIn text t) h (t .count))
-  × ((k : ℕ) → k < t .count → getD (t .lines) k noLine .next ≡ latest (namesIn text t) (bucketOf (getD (namesIn text t) k [])) k)
+    ((h : ℕ) → h < buckets → getD (t .heads) h 0 ≡ latest (namesIn text t) h (t .count))
+    × ((k : ℕ) → k < t .count → getD (t .lines) k noLine .next ≡ latest (namesIn text t) (bucketOf (getD (namesIn text t) k [])) k)
 
 -- the table has all the names of the text, or there is the first fault
 abbrev pub TableRead : List ℕ → Result Table Fault → Type 0

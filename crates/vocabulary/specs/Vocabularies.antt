@@ -53,8 +53,8 @@ abbrev pub admitted : List (List ℕ) → ℕ → List ℕ → Result (Unit {0})
 admitted names n name =
     cond (isShortName name)
     (cond (ltb (length names) mostNames)
-      (cond (isSome (codeOf names name)) (Err (fault NameTwice n)) (Ok tt))
-      (Err (fault TooManyNames n)))
+    (cond (isSome (codeOf names name)) (Err (fault NameTwice n)) (Ok tt))
+    (Err (fault TooManyNames n)))
     (Err (fault LineNotName n))
 
 -- the names so far and those of s, or the first fault; a line has begun at the place n, and `begun` is what it has before s

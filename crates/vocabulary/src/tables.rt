@@ -63,7 +63,15 @@ impl Table {
         ensures chains { λ r. ⌜ Chains (now (text .entry)) r ⌝ }
         ensures names { λ r. ⌜ namesIn (now (text .entry)) r ≡ [] ⌝ }
     {
-        Table { lines: [Line { start: 0, end: 0, next: 0 }; MOST_NAMES], heads: [0; BUCKETS], count: 0 }
+        Table {
+            lines: [Line {
+                start: 0,
+                end: 0,
+                next: 0,
+            }; MOST_NAMES],
+            heads: [0; BUCKETS],
+            count: 0,
+        }
     }
 
     // The name of line `at`, counted from 0.

@@ -9,10 +9,10 @@ ghost use Rattle.std.specs.declared.option.Option.the-variants.{Some, None};
 ghost use Rattle.vocabulary.specs.Limits.{mostSteps};
 ghost use Rattle.filter.specs.Filters.{anyChild, areTests, isFilter, stepAt};
 ghost use Rattle.filter.specs.Walks.{stepsOf};
-use super::Filter;
 use super::super::steps::Axis;
 use super::super::steps::Step;
 use super::super::steps::Test;
+use super::Filter;
 use vocabulary::MOST_STEPS;
 
 fn all_known(steps: &[Step]) -> bool
@@ -31,7 +31,13 @@ impl Filter {
     pub fn new() -> Filter
         ensures answer { λ r. ⌜ stepsOf r ≡ anyChild ∷ [] ⌝ }
     {
-        Filter { steps: [Step { axis: Axis::Child, test: Test::Any }; MOST_STEPS], count: 1 }
+        Filter {
+            steps: [Step {
+                axis: Axis::Child,
+                test: Test::Any,
+            }; MOST_STEPS],
+            count: 1,
+        }
     }
 
     // The filter of these steps, if they are one to eight and each code is 1 to 512.
@@ -41,11 +47,17 @@ impl Filter {
         if given.is_empty() || given.len() > MOST_STEPS || !all_known(given) {
             return None;
         }
-        let mut steps = [Step { axis: Axis::Child, test: Test::Any }; MOST_STEPS];
+        let mut steps = [Step {
+            axis: Axis::Child,
+            test: Test::Any,
+        }; MOST_STEPS];
         for i in 0..given.len() {
             steps[i] = given[i];
         }
-        Some(Filter { steps, count: given.len() })
+        Some(Filter {
+            steps,
+            count: given.len(),
+        })
     }
 
     pub fn len(&self) -> usize

@@ -10,10 +10,10 @@ ghost use Rattle.vocabulary.specs.Limits.{mostOpen, mostSteps};
 ghost use Rattle.filter.specs.Embedding.{Embeds, OneMoreStep, reaches, embeds, fits, pick};
 ghost use Rattle.filter.specs.Masks.{column, newest, Columns};
 ghost use Rattle.filter.specs.Walks.{stepsOf, pathOf};
-use super::Walk;
 use super::super::filters::Filter;
 use super::super::steps::Axis;
 use super::super::steps::Step;
+use super::Walk;
 use vocabulary::MOST_OPEN;
 use vocabulary::MOST_STEPS;
 
@@ -84,7 +84,12 @@ impl Walk {
         ensures path { λ r. ⌜ pathOf r ≡ [] ⌝ }
         ensures filter { λ r. ⌜ r .filter ≡ now (filter .entry) ⌝ }
     {
-        Walk { filter: *filter, masks: [0; MOST_STEPS], path: [0; MOST_OPEN], depth: 0 }
+        Walk {
+            filter: *filter,
+            masks: [0; MOST_STEPS],
+            path: [0; MOST_OPEN],
+            depth: 0,
+        }
     }
 
     // Opens an element, and answers whether the filter embeds at it; with `MOST_OPEN` open nothing happens.

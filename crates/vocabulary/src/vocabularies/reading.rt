@@ -11,15 +11,15 @@ ghost use Rattle.vocabulary.specs.Names.{codeOf, IsCode, nameOf};
 ghost use Rattle.vocabulary.specs.Readings.{namesAfter, namesOf, verdict};
 ghost use Rattle.vocabulary.specs.Tables.{namesIn, Chains, Rows, TableRead};
 ghost use Rattle.vocabulary.specs.Vocabularies.{Accepts, admitted, isInLine, LineRead, mostBytes, readNames};
-use super::Vocabulary;
 use super::super::faults::Fault;
 use super::super::faults::Question;
 use super::super::limits::MOST_NAME_BYTES;
 use super::super::limits::MOST_NAMES;
 use super::super::names::is_short_name;
+use super::super::tables::Table;
 use super::super::tables::from;
 use super::super::tables::part;
-use super::super::tables::Table;
+use super::Vocabulary;
 
 // The bytes of a vocabulary at most.
 const MOST_BYTES: usize = 16384;
@@ -43,13 +43,22 @@ fn admit(table: &Table, text: &[u8], name: &[u8], place: u32) -> Result<(), Faul
     ensures answer { λ r. ⌜ r ≡ admitted (namesIn (now (text .entry)) (now (table .entry))) place (now (name .entry)) ⌝ }
 {
     if !is_short_name(name) {
-        return Err(Fault { question: Question::LineNotName, place });
+        return Err(Fault {
+            question: Question::LineNotName,
+            place,
+        });
     }
     if table.count >= MOST_NAMES {
-        return Err(Fault { question: Question::TooManyNames, place });
+        return Err(Fault {
+            question: Question::TooManyNames,
+            place,
+        });
     }
     if table.code_of(text, name).is_some() {
-        return Err(Fault { question: Question::NameTwice, place });
+        return Err(Fault {
+            question: Question::NameTwice,
+            place,
+        });
     }
     Ok(())
 }
@@ -67,7 +76,10 @@ fn take_line(table: &mut Table, text: &[u8], place: usize) -> Result<usize, Faul
     let rest = from(text, place);
     let len = line_len(rest);
     if len == rest.len() {
-        return Err(Fault { question: Question::LineNotEnded, place: place as u32 });
+        return Err(Fault {
+            question: Question::LineNotEnded,
+            place: place as u32,
+        });
     }
     admit(table, text, part(text, place, place + len), place as u32)?;
     table.add(text, place as u16, (place + len) as u16);
@@ -93,7 +105,10 @@ impl<'a> Vocabulary<'a> {
         ensures answer { λ r. ⌜ namesOf r ≡ [] ⌝ }
     {
         let text: &[u8] = &[];
-        Vocabulary { text, table: Table::new(text) }
+        Vocabulary {
+            text,
+            table: Table::new(text),
+        }
     }
 
     // Takes the names of the text in place of its own, or answers the first fault and stays as it is.
@@ -103,7 +118,10 @@ impl<'a> Vocabulary<'a> {
         ensures theorem { λ r. ⌜ Accepts ⌝ }
     {
         if text.is_empty() || text.len() > MOST_BYTES {
-            return Err(Fault { question: Question::VocabularySize, place: 0 });
+            return Err(Fault {
+                question: Question::VocabularySize,
+                place: 0,
+            });
         }
         let table = read_lines(text)?;
         *self = Vocabulary { text, table };

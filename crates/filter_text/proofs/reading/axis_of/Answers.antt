@@ -14,8 +14,8 @@ pub returns-in-47-2 : need.returns-in-47-2
 returns-in-47-2 c =
     let s = c .args .rest .now in
     elim (c .in-47-2· .came) [
-      then-rest-lt2·in-47· w ↦
+      | then-rest-lt2·in-47· w ↦
           record { answer = alone s (omega (arith, ltb-true, ltb-false)) (omega (arith, ltb-true, ltb-false)) (omega (arith, ltb-true, ltb-false)); shorter = shorter s 1 (omega (arith, ltb-true, ltb-false)) (omega (arith, ltb-true, ltb-false)) }
-    | else-rest-lt2·in-47··in-rest· w ↦
+      | else-rest-lt2·in-47··in-rest· w ↦
           record { answer = one s (omega (arith, ltb-true, ltb-false)) (omega (arith, ltb-true, ltb-false)) (λ e. omega (arith, ltb-true, ltb-false)); shorter = shorter s 1 (omega (arith, ltb-true, ltb-false)) (omega (arith, ltb-true, ltb-false)) }
     ]

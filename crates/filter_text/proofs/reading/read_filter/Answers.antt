@@ -32,10 +32,10 @@ returns-then-is-empty c =
     let text = c .args .text .now in
     let names = namesOf (c .args .vocabulary .now) in
     let size : Err (fault FilterSize 0) ≡ readSteps names text =
-          elim (c .then-is-empty .came) [
-            then-is-empty·by·then-is-empty w ↦ empty names text (true-eqb _ _ (w .if-is-empty .ensures tt))
-          | then-is-empty·by·else-is-empty·then-text-gt-MOST-TEXT w ↦ oversized names text (w .if-text-gt-MOST-TEXT .taken)
-          ] in
+    elim (c .then-is-empty .came) [
+      | then-is-empty·by·then-is-empty w ↦ empty names text (true-eqb _ _ (w .if-is-empty .ensures tt))
+      | then-is-empty·by·else-is-empty·then-text-gt-MOST-TEXT w ↦ oversized names text (w .if-text-gt-MOST-TEXT .taken)
+    ] in
     record { answer = ap verdict size; after = ap (λ r. stepsAfter r (stepsOf (c .args .filter .now))) size; unchanged = refl; back = tt; theorem = reading }
 
 pub returns-in-Break-steps : need.returns-in-Break-steps

@@ -37,11 +37,11 @@ loop-step-again c =
     let steps = c .args .steps .now in
     let i = c .loop-step .step-index in
     elim (c .match-test-text .came) [
-      in-Some w ↦
-        put-more names steps i (c .loop-step-test .taken) (c .loop-step .place) (c .loop-step .buffer) (c .loop-step .inv) (c .axis-text .result .now) (w .in-Some .text .now) (c .axis-text .ensures .answer) (w .in-Some .ensures tt .answer)
+      | in-Some w ↦
+          put-more names steps i (c .loop-step-test .taken) (c .loop-step .place) (c .loop-step .buffer) (c .loop-step .inv) (c .axis-text .result .now) (w .in-Some .text .now) (c .axis-text .ensures .answer) (w .in-Some .ensures tt .answer)
           (c .put-place .last .buffer) (c .match-test-text .buffer) (c .put-place .result) (c .match-test-text .place) (c .put-place .ensures .answer) (c .put-place .ensures .buffer)
           (w .place-is ∙ w .put-place-in-Some .ensures .answer) (ap (λ b. take (c .put-place .result + length (w .in-Some .text .now)) b) (w .buffer-is) ∙ w .put-place-in-Some .ensures .buffer)
-    | in-rest w ↦ absurd (false≢true (ap isSome (w .in-rest .ensures tt .answer) ∙ put-known names steps i (c .loop-step-test .taken) (c .pre .known)))
+      | in-rest w ↦ absurd (false≢true (ap isSome (w .in-rest .ensures tt .answer) ∙ put-known names steps i (c .loop-step-test .taken) (c .pre .known)))
     ]
 
 pub returns : need.returns

@@ -69,7 +69,7 @@ returns c =
     let keeps = c .put-steps-place .kept .buffer in
     let text = c .put-steps-place .ensures .buffer ∙ ap (textOf names) same in
     let now : c .clear-from .last .buffer ≡ textOf names (stepsOf f) ++ replicate (length before - c .put-steps-place .result) 0 =
-          c .clear-from .ensures .buffer ∙ ap (λ t. t ++ replicate (length (c .put-steps-place .last .buffer) - c .put-steps-place .result) 0) text ∙ ap (λ n. textOf names (stepsOf f) ++ replicate (n - c .put-steps-place .result) 0) keeps in
+    c .clear-from .ensures .buffer ∙ ap (λ t. t ++ replicate (length (c .put-steps-place .last .buffer) - c .put-steps-place .result) 0) text ∙ ap (λ n. textOf names (stepsOf f) ++ replicate (n - c .put-steps-place .result) 0) keeps in
     let few = f .few in
     let full = f .full in
     let some = f .some in

@@ -13,8 +13,8 @@ returns-then-k-eq0 c =
     let few = f .few in
     record {
       answer = elim (c .then-k-eq0 .came) [
-        then-k-eq0·by·then-k-eq0 w ↦ sym (ap (λ k. stepAt (stepsOf f) k) (w .if-k-eq0 .taken))
-      | then-k-eq0·by·else-k-eq0·then-k-self w ↦ step-none (f .steps) (f .count) (c .args .k) (omega arith) (w .if-k-self .taken)
+        | then-k-eq0·by·then-k-eq0 w ↦ sym (ap (λ k. stepAt (stepsOf f) k) (w .if-k-eq0 .taken))
+        | then-k-eq0·by·else-k-eq0·then-k-self w ↦ step-none (f .steps) (f .count) (c .args .k) (omega arith) (w .if-k-self .taken)
       ];
     }
 

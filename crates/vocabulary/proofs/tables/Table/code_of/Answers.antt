@@ -15,7 +15,7 @@ loop-code-holds c =
     let text = c .args .text .now in
     let b = c .bucket-of .ensures .answer in
     looking-first (namesIn text t) (c .args .name .now) (t .count) (length-names text t (c .pre .rows)) _
-      (c .pre .chains .0 (c .bucket-of .result) (c .bucket-of .ensures .within) ∙ ap (λ h. latest (namesIn text t) h (t .count)) b)
+    (c .pre .chains .0 (c .bucket-of .result) (c .bucket-of .ensures .within) ∙ ap (λ h. latest (namesIn text t) h (t .count)) b)
 
 pub name-requires : need.name-requires
 name-requires c κs =
@@ -29,7 +29,7 @@ returns-then-is-same-name c =
     let text = c .args .text .now in
     record {
       answer = looking-found (namesIn text t) (c .args .name .now) (t .count) (length-names text t (c .pre .rows)) (c .loop-code .code) (c .loop-code-test .taken) (c .loop-code .inv)
-        (c .if-is-same-name .ensures tt .answer ∙ ap (λ n. sameBytes n (c .args .name .now)) (c .name .ensures .answer));
+          (c .if-is-same-name .ensures tt .answer ∙ ap (λ n. sameBytes n (c .args .name .now)) (c .name .ensures .answer));
     }
 
 next : (c : need.After-way-told-in-loop-code·1) → (getD (c .args .self .now .lines) (c .loop-code .code - 1) noLine .next < c .loop-code .code) × Looking (namesIn (c .args .text .now) (c .args .self .now)) (c .args .name .now) (c .args .self .now .count) (getD (c .args .self .now .lines) (c .loop-code .code - 1) noLine .next)
@@ -39,7 +39,7 @@ next c =
     let low = c .loop-code .inv .0 in
     let some = c .loop-code-test .taken in
     looking-next (namesIn text t) (c .args .name .now) (t .count) (length-names text t (c .pre .rows)) (c .loop-code .code) some (c .loop-code .inv)
-      (c .if-is-same-name .ensures tt .answer ∙ ap (λ n. sameBytes n (c .args .name .now)) (c .name .ensures .answer)) _ (c .pre .chains .1 (c .loop-code .code - 1) (omega arith))
+    (c .if-is-same-name .ensures tt .answer ∙ ap (λ n. sameBytes n (c .args .name .now)) (c .name .ensures .answer)) _ (c .pre .chains .1 (c .loop-code .code - 1) (omega arith))
 
 pub loop-code-less : need.loop-code-less
 loop-code-less c = next c .0

@@ -18,8 +18,8 @@ returns-then-code-eq0 c =
     let count = length-names (v .text .now) (v .table) (v .rows) in
     record {
       answer = elim (c .then-code-eq0 .came) [
-        then-code-eq0·by·then-code-eq0 w ↦ sym (ap (λ k. nameOf (namesOf v) k) (w .if-code-eq0 .taken))
-      | then-code-eq0·by·else-code-eq0·then-code-self w ↦ let past = w .if-code-self .taken in sym (name-past (namesOf v) (c .args .code) (omega arith))
+        | then-code-eq0·by·then-code-eq0 w ↦ sym (ap (λ k. nameOf (namesOf v) k) (w .if-code-eq0 .taken))
+        | then-code-eq0·by·else-code-eq0·then-code-self w ↦ let past = w .if-code-self .taken in sym (name-past (namesOf v) (c .args .code) (omega arith))
       ];
       short = tt;
     }

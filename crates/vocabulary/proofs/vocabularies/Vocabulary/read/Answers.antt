@@ -19,10 +19,10 @@ pub returns-then-is-empty : need.returns-then-is-empty
 returns-then-is-empty c =
     let text = c .args .text .now in
     let size : Err (fault VocabularySize 0) ≡ readNames text =
-          elim (c .then-is-empty .came) [
-            then-is-empty·by·then-is-empty w ↦ empty text (true-eqb _ _ (w .if-is-empty .ensures tt))
-          | then-is-empty·by·else-is-empty·then-text-gt-MOST-BYTES w ↦ oversized text (w .if-text-gt-MOST-BYTES .taken)
-          ] in
+    elim (c .then-is-empty .came) [
+      | then-is-empty·by·then-is-empty w ↦ empty text (true-eqb _ _ (w .if-is-empty .ensures tt))
+      | then-is-empty·by·else-is-empty·then-text-gt-MOST-BYTES w ↦ oversized text (w .if-text-gt-MOST-BYTES .taken)
+    ] in
     record { answer = ap verdict size; after = ap (λ r. namesAfter r (namesOf (c .args .self .now))) size; theorem = accepts }
 
 pub returns-in-Break-table : need.returns-in-Break-table

@@ -8,10 +8,10 @@ use Rattle.vocabulary.proofs.vocabularies.reading.read_lines.Given as given
 
 abbrev pub Inv-loop-place : given.InvT-loop-place
 Inv-loop-place l =
-  (l .place ≤ length (l .text))
-  × Rows (l .text) (l .table)
-  × Chains (l .text) (l .table)
-  × (readLines (namesIn (l .text) (l .table)) (l .place) [] (drop (l .place) (l .text)) ≡ readLines [] 0 [] (l .text))
+    (l .place ≤ length (l .text))
+    × Rows (l .text) (l .table)
+    × Chains (l .text) (l .table)
+    × (readLines (namesIn (l .text) (l .table)) (l .place) [] (drop (l .place) (l .text)) ≡ readLines [] 0 [] (l .text))
 
 abbrev pub μ-loop-place : given.MeasureT-loop-place
 μ-loop-place l = length (l .text) - l .place

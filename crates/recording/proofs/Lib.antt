@@ -1,0 +1,3 @@
+-- The lemmas of this crate. Assumes nothing.
+pub mod Turns
+pub mod Replaying
