@@ -9,3 +9,6 @@ pub use steps::Axis;
 pub use steps::Step;
 pub use steps::Test;
 pub use walks::Walk;
+
+#[cfg(test)]
+mod tests;

@@ -5,3 +5,6 @@ pub mod writing;
 
 pub use reading::read_filter;
 pub use writing::write_filter;
+
+#[cfg(test)]
+mod tests;

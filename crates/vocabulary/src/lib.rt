@@ -13,3 +13,6 @@ pub use limits::MOST_NAMES;
 pub use limits::MOST_OPEN;
 pub use limits::MOST_STEPS;
 pub use vocabularies::Vocabulary;
+
+#[cfg(test)]
+mod tests;
