@@ -8,9 +8,20 @@ use super::steps::Test;
 use super::walks::Walk;
 use std::test::*;
 
-const ANY: Step = Step { axis: Axis::Child, test: Test::Any };
-const D: Step = Step { axis: Axis::Descendant, test: Test::Code(1) };
-const G: Step = Step { axis: Axis::Child, test: Test::Code(2) };
+const ANY: Step = Step {
+    axis: Axis::Child,
+    test: Test::Any,
+};
+
+const D: Step = Step {
+    axis: Axis::Descendant,
+    test: Test::Code(1),
+};
+
+const G: Step = Step {
+    axis: Axis::Child,
+    test: Test::Code(2),
+};
 
 fn made(steps: &[Step]) -> Result<Filter, Fail> {
     match Filter::from_steps(steps) {
@@ -32,7 +43,10 @@ fn lengths() -> Result<(), Fail> {
 #[test]
 fn codes() -> Result<(), Fail> {
     for (code, known) in [(0, false), (1, true), (512, true), (513, false)] {
-        let step = Step { axis: Axis::Child, test: Test::Code(code) };
+        let step = Step {
+            axis: Axis::Child,
+            test: Test::Code(code),
+        };
         check_eq(Filter::from_steps(&[ANY, step]).is_some(), known)?;
     }
     Ok(())
@@ -44,7 +58,13 @@ fn numbers() -> Result<(), Fail> {
     let filter = made(&[D, G, ANY])?;
     check_eq(filter.len(), 3)?;
     check_eq(filter.steps(), &[D, G, ANY])?;
-    for (k, step) in [(0, None), (1, Some(D)), (2, Some(G)), (3, Some(ANY)), (4, None)] {
+    for (k, step) in [
+        (0, None),
+        (1, Some(D)),
+        (2, Some(G)),
+        (3, Some(ANY)),
+        (4, None),
+    ] {
         check_eq(filter.step(k), step)?;
     }
     Ok(())
@@ -66,9 +86,54 @@ fn goes(steps: &[Step], moves: &[(Option<u16>, bool)]) -> Result<(), Fail> {
 #[test]
 fn walks() -> Result<(), Fail> {
     let out = (None, false);
-    goes(&[D, G], &[out, (Some(1), false), (Some(2), true), (Some(2), false), out, (Some(1), false), (Some(2), true), out, out, out, (Some(2), true), (Some(0), false)])?;
-    goes(&[G, D], &[(Some(2), false), (Some(3), false), (Some(1), true), out, (Some(1), true), (Some(1), true), out, out, out, out, out, (Some(1), false), (Some(1), false)])?;
-    goes(&[ANY, G], &[(Some(0), false), (Some(2), true), (Some(2), false), out, out, (Some(1), false), out, (Some(2), true)])
+    goes(
+        &[D, G],
+        &[
+            out,
+            (Some(1), false),
+            (Some(2), true),
+            (Some(2), false),
+            out,
+            (Some(1), false),
+            (Some(2), true),
+            out,
+            out,
+            out,
+            (Some(2), true),
+            (Some(0), false),
+        ],
+    )?;
+    goes(
+        &[G, D],
+        &[
+            (Some(2), false),
+            (Some(3), false),
+            (Some(1), true),
+            out,
+            (Some(1), true),
+            (Some(1), true),
+            out,
+            out,
+            out,
+            out,
+            out,
+            (Some(1), false),
+            (Some(1), false),
+        ],
+    )?;
+    goes(
+        &[ANY, G],
+        &[
+            (Some(0), false),
+            (Some(2), true),
+            (Some(2), false),
+            out,
+            out,
+            (Some(1), false),
+            out,
+            (Some(2), true),
+        ],
+    )
 }
 
 #[test]

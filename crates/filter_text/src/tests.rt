@@ -28,9 +28,21 @@ fn refusals() -> Result<(), Fail> {
         (b"//", Question::StepNoTest, 2),
         (b"/1", Question::StepNoTest, 1),
         (b"///D", Question::StepNoTest, 2),
-        (b"/aaaaaaaabbbbbbbbccccccccdddddddde", Question::StepNameLong, 1),
-        (b"/D//aaaaaaaabbbbbbbbccccccccdddddddde", Question::StepNameLong, 4),
-        (b"/aaaaaaaabbbbbbbbccccccccdddddddd", Question::StepNameUnknown, 1),
+        (
+            b"/aaaaaaaabbbbbbbbccccccccdddddddde",
+            Question::StepNameLong,
+            1,
+        ),
+        (
+            b"/D//aaaaaaaabbbbbbbbccccccccdddddddde",
+            Question::StepNameLong,
+            4,
+        ),
+        (
+            b"/aaaaaaaabbbbbbbbccccccccdddddddd",
+            Question::StepNameUnknown,
+            1,
+        ),
         (b"/D/X", Question::StepNameUnknown, 3),
     ];
     let mut vocabulary = Vocabulary::new();
@@ -38,8 +50,17 @@ fn refusals() -> Result<(), Fail> {
     let mut filter = Filter::new();
     read_filter(b"//G", &vocabulary, &mut filter)?;
     for (text, question, place) in cases {
-        check_eq(read_filter(text, &vocabulary, &mut filter), Err(Fault { question, place }))?;
-        check_eq(filter.steps(), &[Step { axis: Axis::Descendant, test: Test::Code(2) }])?;
+        check_eq(
+            read_filter(text, &vocabulary, &mut filter),
+            Err(Fault { question, place }),
+        )?;
+        check_eq(
+            filter.steps(),
+            &[Step {
+                axis: Axis::Descendant,
+                test: Test::Code(2),
+            }],
+        )?;
     }
     read_filter(b"/D/D/D/D/D/D/D//D", &vocabulary, &mut filter)?;
     check_eq(filter.len(), 8)
@@ -61,7 +82,13 @@ fn longest(rt: LibcRuntime) -> Result<(), Fail> {
     check_eq(write_filter(&filter, &vocabulary, &mut buffer), Ok(272))?;
     check_eq(text.as_slice(), &buffer)?;
     text.push(b'/')?;
-    check_eq(read_filter(text.as_slice(), &vocabulary, &mut filter), Err(Fault { question: Question::FilterSize, place: 0 }))
+    check_eq(
+        read_filter(text.as_slice(), &vocabulary, &mut filter),
+        Err(Fault {
+            question: Question::FilterSize,
+            place: 0,
+        }),
+    )
 }
 
 #[test]
@@ -70,7 +97,10 @@ fn written() -> Result<(), Fail> {
     vocabulary.read(b"D\nG\nS\n")?;
     let mut filter = Filter::new();
     read_filter(b"/D//*/S", &vocabulary, &mut filter)?;
-    let short = Fault { question: Question::BufferShort, place: 0 };
+    let short = Fault {
+        question: Question::BufferShort,
+        place: 0,
+    };
     let cases: [(usize, Result<usize, Fault>, &[u8]); 4] = [
         (0, Err(short), b"yyyyyyyyy"),
         (6, Err(short), b"yyyyyyyyy"),
@@ -80,7 +110,10 @@ fn written() -> Result<(), Fail> {
     for (len, answer, expected) in cases {
         let mut buffer = [b'y'; 9];
         check(len <= buffer.len())?;
-        check_eq(write_filter(&filter, &vocabulary, &mut buffer[0..len]), answer)?;
+        check_eq(
+            write_filter(&filter, &vocabulary, &mut buffer[0..len]),
+            answer,
+        )?;
         check_eq(&buffer, expected)?;
     }
     Ok(())
@@ -90,10 +123,30 @@ fn written() -> Result<(), Fail> {
 fn unknown_code() -> Result<(), Fail> {
     let mut vocabulary = Vocabulary::new();
     vocabulary.read(b"D\nG\nS\n")?;
-    for (code, answer) in [(3, Ok(4)), (4, Err(Fault { question: Question::CodeUnknown, place: 2 }))] {
-        let any = Step { axis: Axis::Child, test: Test::Any };
+    for (code, answer) in [
+        (3, Ok(4)),
+        (
+            4,
+            Err(Fault {
+                question: Question::CodeUnknown,
+                place: 2,
+            }),
+        ),
+    ] {
+        let any = Step {
+            axis: Axis::Child,
+            test: Test::Any,
+        };
         let mut buffer = *b"yyyy";
-        match Filter::from_steps(&[any, Step { axis: Axis::Child, test: Test::Code(code) }]) {
+        match Filter::from_steps(
+            &[
+                any,
+                Step {
+                    axis: Axis::Child,
+                    test: Test::Code(code),
+                },
+            ],
+        ) {
             Some(filter) => check_eq(write_filter(&filter, &vocabulary, &mut buffer), answer)?,
             None => return Err(Fail::new("refused")),
         }

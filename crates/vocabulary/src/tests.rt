@@ -37,7 +37,11 @@ fn short_texts() -> Result<(), Fail> {
         (b"D\n\n", Question::LineNotName, 2),
         (b"D\n1x\n", Question::LineNotName, 2),
         (b"D\nG \n", Question::LineNotName, 2),
-        (b"aaaaaaaabbbbbbbbccccccccdddddddde\n", Question::LineNotName, 0),
+        (
+            b"aaaaaaaabbbbbbbbccccccccdddddddde\n",
+            Question::LineNotName,
+            0,
+        ),
         (b"D\nG\nD\n", Question::NameTwice, 4),
         (b"D\nG\nG\nS", Question::NameTwice, 4),
     ];
@@ -54,7 +58,13 @@ fn long_texts(rt: LibcRuntime) -> Result<(), Fail> {
     check_eq(most.len(), 16384)?;
     answers(most.as_slice(), Ok(()))?;
     most.push(b'D')?;
-    answers(most.as_slice(), Err(Fault { question: Question::VocabularySize, place: 0 }))
+    answers(
+        most.as_slice(),
+        Err(Fault {
+            question: Question::VocabularySize,
+            place: 0,
+        }),
+    )
 }
 
 #[test]
@@ -65,16 +75,36 @@ fn many_names(rt: LibcRuntime) -> Result<(), Fail> {
     check_eq(vocabulary.len(), 512)?;
     check_eq(vocabulary.code_of(b"hhh"), Some(512))?;
     text.extend_from_slice(b"D\n")?;
-    answers(text.as_slice(), Err(Fault { question: Question::TooManyNames, place: 2048 }))
+    answers(
+        text.as_slice(),
+        Err(Fault {
+            question: Question::TooManyNames,
+            place: 2048,
+        }),
+    )
 }
 
 fn is_names_of(vocabulary: &Vocabulary) -> Result<(), Fail> {
     check_eq(vocabulary.len(), 3)?;
-    let cases: [(u16, Option<&[u8]>); 5] = [(0, None), (1, Some(b"D")), (2, Some(b"G")), (3, Some(b"GS")), (4, None)];
+    let cases: [(u16, Option<&[u8]>); 5] = [
+        (0, None),
+        (1, Some(b"D")),
+        (2, Some(b"G")),
+        (3, Some(b"GS")),
+        (4, None),
+    ];
     for (code, name) in cases {
         check_eq(vocabulary.name_of(code), name)?;
     }
-    let cases: [(&[u8], Option<u16>); 7] = [(b"D", Some(1)), (b"G", Some(2)), (b"GS", Some(3)), (b"", None), (b"S", None), (b"d", None), (b"GSS", None)];
+    let cases: [(&[u8], Option<u16>); 7] = [
+        (b"D", Some(1)),
+        (b"G", Some(2)),
+        (b"GS", Some(3)),
+        (b"", None),
+        (b"S", None),
+        (b"d", None),
+        (b"GSS", None),
+    ];
     for (name, code) in cases {
         check_eq(vocabulary.code_of(name), code)?;
     }
@@ -88,8 +118,20 @@ fn codes_and_names() -> Result<(), Fail> {
     check_eq(vocabulary.code_of(b"D"), None)?;
     vocabulary.read(b"D\nG\nGS\n")?;
     is_names_of(&vocabulary)?;
-    check_eq(vocabulary.read(b"X\nX\n"), Err(Fault { question: Question::NameTwice, place: 2 }))?;
-    check_eq(vocabulary.read(b""), Err(Fault { question: Question::VocabularySize, place: 0 }))?;
+    check_eq(
+        vocabulary.read(b"X\nX\n"),
+        Err(Fault {
+            question: Question::NameTwice,
+            place: 2,
+        }),
+    )?;
+    check_eq(
+        vocabulary.read(b""),
+        Err(Fault {
+            question: Question::VocabularySize,
+            place: 0,
+        }),
+    )?;
     is_names_of(&vocabulary)?;
     vocabulary.read(b"S\n")?;
     check_eq(vocabulary.len(), 1)?;
@@ -98,6 +140,12 @@ fn codes_and_names() -> Result<(), Fail> {
 
 #[test]
 fn shown(rt: LibcRuntime) -> Result<(), Fail> {
-    let fault = Fault { question: Question::WordNoneOpen, place: 7 };
-    check_eq(format!(rt.alloc(), "{fault}")?.as_str(), "refused 45 at 7: an end with no element open")
+    let fault = Fault {
+        question: Question::WordNoneOpen,
+        place: 7,
+    };
+    check_eq(
+        format!(rt.alloc(), "{fault}")?.as_str(),
+        "refused 45 at 7: an end with no element open",
+    )
 }
