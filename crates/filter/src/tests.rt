@@ -15,12 +15,12 @@ const ANY: Step = Step {
 
 const D: Step = Step {
     axis: Axis::Descendant,
-    test: Test::Code(1),
+    test: Test::Code(68),
 };
 
 const G: Step = Step {
     axis: Axis::Child,
-    test: Test::Code(2),
+    test: Test::Code(71),
 };
 
 fn made(steps: &[Step]) -> Result<Filter, Fail> {
@@ -70,14 +70,16 @@ fn numbers() -> Result<(), Fail> {
     Ok(())
 }
 
-// Starts by their codes, each with the answer; none is an end.
-fn goes(steps: &[Step], moves: &[(Option<u16>, bool)]) -> Result<(), Fail> {
+// A letter starts an element whose code is the letter's byte, and / ends one; + stands where the filter embeds.
+fn goes(steps: &[Step], moves: &[u8], hits: &[u8]) -> Result<(), Fail> {
+    check_eq(moves.len(), hits.len())?;
     let filter = made(steps)?;
     let mut walk = Walk::new(&filter);
-    for (code, hit) in moves {
-        match code {
-            Some(code) => check_eq(walk.start(*code), *hit)?,
-            None => walk.end(),
+    for (step, hit) in moves.iter().zip(hits.iter()) {
+        if *step == b'/' {
+            walk.end();
+        } else {
+            check_eq(walk.start(u16::from(*step)), *hit == b'+')?;
         }
     }
     Ok(())
@@ -85,55 +87,9 @@ fn goes(steps: &[Step], moves: &[(Option<u16>, bool)]) -> Result<(), Fail> {
 
 #[test]
 fn walks() -> Result<(), Fail> {
-    let out = (None, false);
-    goes(
-        &[D, G],
-        &[
-            out,
-            (Some(1), false),
-            (Some(2), true),
-            (Some(2), false),
-            out,
-            (Some(1), false),
-            (Some(2), true),
-            out,
-            out,
-            out,
-            (Some(2), true),
-            (Some(0), false),
-        ],
-    )?;
-    goes(
-        &[G, D],
-        &[
-            (Some(2), false),
-            (Some(3), false),
-            (Some(1), true),
-            out,
-            (Some(1), true),
-            (Some(1), true),
-            out,
-            out,
-            out,
-            out,
-            out,
-            (Some(1), false),
-            (Some(1), false),
-        ],
-    )?;
-    goes(
-        &[ANY, G],
-        &[
-            (Some(0), false),
-            (Some(2), true),
-            (Some(2), false),
-            out,
-            out,
-            (Some(1), false),
-            out,
-            (Some(2), true),
-        ],
-    )
+    goes(&[D, G], b"/DGG/DG///GX", b"..+...+...+.")?;
+    goes(&[G, D], b"GXD/DD/////DD", b"..+.++.......")?;
+    goes(&[ANY, G], b"XGG//D/G", b".+.....+")
 }
 
 #[test]
@@ -143,9 +99,9 @@ fn depths() -> Result<(), Fail> {
     for _ in 0..30 {
         check_eq(walk.start(3), false)?;
     }
-    check_eq(walk.start(1), false)?;
-    check_eq(walk.start(2), true)?;
-    check_eq(walk.start(2), false)?;
+    check_eq(walk.start(68), false)?;
+    check_eq(walk.start(71), true)?;
+    check_eq(walk.start(71), false)?;
     walk.end();
-    check_eq(walk.start(2), true)
+    check_eq(walk.start(71), true)
 }

@@ -18,7 +18,7 @@ const LONG: &[u8] = b"aaaaaaaabbbbbbbbccccccccdddddddd";
 
 #[test]
 fn refusals() -> Result<(), Fail> {
-    let cases: [(&[u8], Question, u32); 13] = [
+    let cases: [(&[u8], Question, u32); 12] = [
         (b"", Question::FilterSize, 0),
         (b"/D/D/D/D/D/D/D//D/D", Question::TooManySteps, 17),
         (b"/*/*/*/*/*/*/*/*x", Question::TooManySteps, 16),
@@ -28,11 +28,6 @@ fn refusals() -> Result<(), Fail> {
         (b"//", Question::StepNoTest, 2),
         (b"/1", Question::StepNoTest, 1),
         (b"///D", Question::StepNoTest, 2),
-        (
-            b"/aaaaaaaabbbbbbbbccccccccdddddddde",
-            Question::StepNameLong,
-            1,
-        ),
         (
             b"/D//aaaaaaaabbbbbbbbccccccccdddddddde",
             Question::StepNameLong,
