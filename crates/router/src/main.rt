@@ -13,18 +13,17 @@ use vocabulary::Fault;
 use vocabulary::FaultDisplay;
 use vocabulary::Vocabulary;
 use words::words_in;
+use xml::TextReader;
+use xml::TextSource;
 
 fn help(rt: &LibcRuntime) -> Result<(), AnyError> {
     println!(rt, "Routes customs messages by standing filters.")?;
     println!(rt, "")?;
     println!(
         rt,
-        "  router hit VOCABULARY FILTER RECORDING...   does the filter hit these recorded messages?"
+        "  router hit VOCABULARY FILTER FILE...   does the filter hit these messages?"
     )?;
-    println!(
-        rt,
-        "  router --help                               this text"
-    )?;
+    println!(rt, "  router --help                          this text")?;
     println!(rt, "")?;
     println!(
         rt,
@@ -36,19 +35,19 @@ fn help(rt: &LibcRuntime) -> Result<(), AnyError> {
     )?;
     println!(
         rt,
-        "RECORDING   a file of 16-bit words, the low byte first: 0 ends an element, v starts the code v - 1"
+        "FILE        a message: a recording if its name ends in .rec, else XML text"
     )?;
     Ok(())
 }
 
-// The command `hit`: does this filter hit these recorded messages?
-// Prints one line for each recording. A file that cannot be read as a recording is told on standard error, and makes the command fail at its end.
+// The command `hit`: does this filter hit these messages?
+// Prints one line for each message. A file that holds none is told on standard error, and makes the command fail at its end.
 fn run_hit(rt: &LibcRuntime, words: &[String]) -> Result<(), AnyError> {
     let [names, text, files @ ..] = words else {
-        return Err("hit wants VOCABULARY FILTER RECORDING...; router --help tells more".into());
+        return Err("hit wants VOCABULARY FILTER FILE...; router --help tells more".into());
     };
     if files.is_empty() {
-        return Err("hit wants at least one RECORDING; router --help tells more".into());
+        return Err("hit wants at least one FILE; router --help tells more".into());
     }
     let bytes = read_file(rt, names.as_str())?;
     let mut vocabulary = Vocabulary::new();
@@ -61,14 +60,14 @@ fn run_hit(rt: &LibcRuntime, words: &[String]) -> Result<(), AnyError> {
     }
     let mut unread = 0usize;
     for file in files {
-        if !answer(rt, file.as_str(), &filter)? {
+        if !answer(rt, file.as_str(), &filter, &vocabulary)? {
             unread = unread.saturating_add(1);
         }
     }
     if unread > 0 {
         let line = format!(
             rt.alloc(),
-            "{unread} of the files are no recordings, see above"
+            "{unread} of the files hold no message, see above"
         )?;
         return Err(line.into());
     }
@@ -90,8 +89,30 @@ fn read_file(rt: &LibcRuntime, path: &str) -> Result<Vec<u8>, AnyError> {
     }
 }
 
-// Prints the line of one recording; false where the file is none.
-fn answer(rt: &LibcRuntime, path: &str, filter: &Filter) -> Result<bool, AnyError> {
+fn is_recording(path: &str) -> bool {
+    match path.as_bytes() {
+        [.., b'.', b'r', b'e', b'c'] => true,
+        _ => false,
+    }
+}
+
+// Prints the line of one message.
+fn say(rt: &LibcRuntime, path: &str, answer: Result<bool, Fault>) -> Result<(), AnyError> {
+    match answer {
+        Ok(true) => println!(rt, "{path}: hit")?,
+        Ok(false) => println!(rt, "{path}: no hit")?,
+        Err(fault) => println!(rt, "{path}: {fault}")?,
+    }
+    Ok(())
+}
+
+// Answers for one file; false where it holds no message.
+fn answer(
+    rt: &LibcRuntime,
+    path: &str,
+    filter: &Filter,
+    vocabulary: &Vocabulary,
+) -> Result<bool, AnyError> {
     let bytes = match fs::read(rt, path) {
         Ok(bytes) => bytes,
         Err(error) => {
@@ -99,6 +120,11 @@ fn answer(rt: &LibcRuntime, path: &str, filter: &Filter) -> Result<bool, AnyErro
             return Ok(false);
         }
     };
+    if !is_recording(path) {
+        let mut source = TextReader::new(bytes.as_slice(), vocabulary);
+        say(rt, path, hit(filter, &mut source))?;
+        return Ok(true);
+    }
     let len = bytes.len();
     if len % 2 != 0 {
         eprintln!(
@@ -109,11 +135,7 @@ fn answer(rt: &LibcRuntime, path: &str, filter: &Filter) -> Result<bool, AnyErro
     }
     let words = words_in(rt.alloc(), bytes.as_slice())?;
     let mut source = Recording::new(words.as_slice());
-    match hit(filter, &mut source) {
-        Ok(true) => println!(rt, "{path}: hit")?,
-        Ok(false) => println!(rt, "{path}: no hit")?,
-        Err(fault) => println!(rt, "{path}: {fault}")?,
-    }
+    say(rt, path, hit(filter, &mut source))?;
     Ok(true)
 }
 

@@ -2,7 +2,7 @@
 use Prim.Native.Nat.{ℕ}
 use Rattle.vocabulary.specs.declared.faults.Fault.{Fault}
 use Rattle.vocabulary.specs.declared.faults.Question.{Question}
-use Rattle.vocabulary.specs.declared.faults.Question.the-variants.{VocabularySize, LineNotEnded, LineNotName, TooManyNames, NameTwice, FilterSize, TooManySteps, StepNoSlash, StepNoTest, StepNameLong, StepNameUnknown, CodeUnknown, BufferShort, RecordingSize, WordTooGreat, WordAfterRoot, WordTooDeep, WordNoneOpen, RecordingNotEnded, SourceNotFresh}
+use Rattle.vocabulary.specs.declared.faults.Question.the-variants.{VocabularySize, LineNotEnded, LineNotName, TooManyNames, NameTwice, FilterSize, TooManySteps, StepNoSlash, StepNoTest, StepNameLong, StepNameUnknown, CodeUnknown, BufferShort, TextSize, ByteOutsideRoot, NoMarkup, MarkupNotEnded, ByteMisfit, TagAfterRoot, TagTooDeep, EndTagUnmet, TextNotEnded, RecordingSize, WordTooGreat, WordAfterRoot, WordTooDeep, WordNoneOpen, RecordingNotEnded, SourceNotFresh}
 
 -- the number that people are told
 abbrev pub numberOf : Question → ℕ
@@ -19,6 +19,15 @@ numberOf StepNameLong = 25
 numberOf StepNameUnknown = 26
 numberOf CodeUnknown = 27
 numberOf BufferShort = 28
+numberOf TextSize = 31
+numberOf ByteOutsideRoot = 32
+numberOf NoMarkup = 33
+numberOf MarkupNotEnded = 34
+numberOf ByteMisfit = 35
+numberOf TagAfterRoot = 36
+numberOf TagTooDeep = 37
+numberOf EndTagUnmet = 38
+numberOf TextNotEnded = 39
 numberOf RecordingSize = 41
 numberOf WordTooGreat = 42
 numberOf WordAfterRoot = 43

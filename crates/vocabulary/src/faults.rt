@@ -19,6 +19,15 @@ pub enum Question {
     StepNameUnknown = 26,
     CodeUnknown = 27,
     BufferShort = 28,
+    TextSize = 31,
+    ByteOutsideRoot = 32,
+    NoMarkup = 33,
+    MarkupNotEnded = 34,
+    ByteMisfit = 35,
+    TagAfterRoot = 36,
+    TagTooDeep = 37,
+    EndTagUnmet = 38,
+    TextNotEnded = 39,
     RecordingSize = 41,
     WordTooGreat = 42,
     WordAfterRoot = 43,
@@ -57,11 +66,26 @@ impl Question {
             Question::StepNameUnknown => "a name in the filter is not in the vocabulary",
             Question::CodeUnknown => "a step's code is not in the vocabulary",
             Question::BufferShort => "the buffer is too short for the filter's text",
-            _ => self.source_reason(),
+            _ => self.text_reason(),
         }
     }
 
-    fn source_reason(self) -> &'static str {
+    fn text_reason(self) -> &'static str {
+        match self {
+            Question::TextSize => "the message is longer than 1048576 bytes",
+            Question::ByteOutsideRoot => "neither white space nor markup outside the root element",
+            Question::NoMarkup => "no tag, comment or instruction begins at this <",
+            Question::MarkupNotEnded => "the text ends inside a tag, a comment or an instruction",
+            Question::ByteMisfit => "a byte does not fit into its tag",
+            Question::TagAfterRoot => "a start tag after the root element has ended",
+            Question::TagTooDeep => "a start tag with 32 elements open",
+            Question::EndTagUnmet => "the end tag does not meet the innermost open element",
+            Question::TextNotEnded => "the text ends before the root element has ended",
+            _ => self.recording_reason(),
+        }
+    }
+
+    fn recording_reason(self) -> &'static str {
         match self {
             Question::RecordingSize => "the recording has more than 1048576 words",
             Question::WordTooGreat => "a word is above 513",

@@ -1,0 +1,9 @@
+pub mod Bytes
+pub mod Grammar
+pub mod Documents
+pub mod Tags
+pub mod Readings
+pub mod Classes
+pub mod Runs
+pub mod Tellings
+pub mod Laws
