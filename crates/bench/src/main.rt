@@ -1,4 +1,6 @@
 // Measures how fast messages are read: bench VOCABULARY FILTERS MESSAGE ROUNDS.
+#![tactic(auto)]
+
 use anyhow::anyhow;
 use filter::Filter;
 use filter_text::read_filter;

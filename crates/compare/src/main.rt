@@ -1,4 +1,6 @@
 // Compares the text reader with examples and with published XML files.
+#![tactic(auto)]
+
 use anyhow::anyhow;
 use filter::Filter;
 use filter_text::read_filter;

@@ -1,4 +1,6 @@
 // One call for a host in C: does this filter hit this message?
+#![tactic(auto)]
+
 ghost use Rattle.std.specs.Prelude.{◌≡◌};
 ghost use Rattle.host.specs.Hosts.{asked, host_answer};
 

@@ -1,4 +1,6 @@
 // Markup: the bytes of tags, comments and instructions.
+#![tactic(auto)]
+
 pub mod tags;
 pub mod texts;
 

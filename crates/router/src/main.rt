@@ -1,4 +1,6 @@
 // The router, as people run it.
+#![tactic(auto)]
+
 mod words;
 
 use anyhow::anyhow;

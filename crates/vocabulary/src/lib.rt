@@ -1,4 +1,6 @@
 // The vocabulary: the names that filters and messages have codes for, and the faults and bounds of the whole product.
+#![tactic(auto)]
+
 pub mod faults;
 pub mod limits;
 pub mod names;

@@ -13,15 +13,15 @@ use Rattle.markup.specs.Readings.{text_events, text_ending}
 use Rattle.host.proofs.Asking.{names_read, steps_read, refused, fresh}
 use Rattle.host.proofs.ask.Goals as goal
 
-pub returns-in-err-read-filter : goal.returns-in-err-read-filter
-returns-in-err-read-filter c =
+pub returns-in_err-read_filter : goal.returns-in_err-read_filter
+returns-in_err-read_filter c =
     let vocabulary = c.args.vocabulary.now in
     let filter = c.args.filter.now in
     let message = c.args.message.now in
     let names = names_of c.read.new.self in
-    let p = err_from_is_err_and c.from-residual-in-err-read-filter.result c.from-residual-in-err-read-filter.ensures.1 in
-    let v = names_read (read_names vocabulary) _ names _ c.in-ok-read.ensures.answer c.in-ok-read.ensures.after in
-    let s = refused (read_steps names filter) _ c.in-err-read-filter.ensures.answer in
+    let p = err_from_is_err_and c.from_residual-in_err-read_filter.result c.from_residual-in_err-read_filter.ensures.1 in
+    let v = names_read (read_names vocabulary) _ names _ c.in_ok-read.ensures.answer c.in_ok-read.ensures.after in
+    let s = refused (read_steps names filter) _ c.in_err-read_filter.ensures.answer in
     let then : List (List ℕ) → List Step → Result Bool Fault = λ n ss. at_ending (text_ending n message) (hits ss (text_events n message)) in
     record {
       answer = p.1 ∙ ap Err p.2 ∙ sym (ap (λ r. chain r (λ n. chain (read_steps n filter) (then n))) v ∙ ap (λ r. chain r (then names)) s);
@@ -33,9 +33,9 @@ returns c =
     let filter = c.args.filter.now in
     let message = c.args.message.now in
     let names = names_of c.read.new.self in
-    let steps = steps_of c.read-filter.new.filter in
-    let v = names_read (read_names vocabulary) _ names _ c.in-ok-read.ensures.answer c.in-ok-read.ensures.after in
-    let s = steps_read (read_steps names filter) _ steps _ c.in-ok-read-filter.ensures.answer c.in-ok-read-filter.ensures.after in
+    let steps = steps_of c.read_filter.new.filter in
+    let v = names_read (read_names vocabulary) _ names _ c.in_ok-read.ensures.answer c.in_ok-read.ensures.after in
+    let s = steps_read (read_steps names filter) _ steps _ c.in_ok-read_filter.ensures.answer c.in_ok-read_filter.ensures.after in
     let then : List (List ℕ) → List Step → Result Bool Fault = λ n ss. at_ending (text_ending n message) (hits ss (text_events n message)) in
     let made = c.new-source.ensures in
     record {

@@ -15,31 +15,31 @@ use Rattle.filter_text.specs.Texts.{text_of}
 use Rattle.filter_text.proofs.Back.{reading, sized, empty, oversized, reads_filter}
 use Rattle.filter_text.proofs.Words.{refused_by}
 use Rattle.filter_text.proofs.reading.read_filter.Goals as goal
-use Rattle.filter_text.proofs.reading.read_filter.Goals.{then-is-empty-via-then-is-empty, then-is-empty-via-else-is-empty+then-text-gt-MOST-TEXT}
+use Rattle.filter_text.proofs.reading.read_filter.Goals.{then-is_empty-via-then-is_empty, then-is_empty-via-else-is_empty+then-text-gt-MOST_TEXT}
 
-pub returns-then-is-empty : goal.returns-then-is-empty
-returns-then-is-empty c =
+pub returns-then-is_empty : goal.returns-then-is_empty
+returns-then-is_empty c =
     let text = c.args.text.now in
     let names = names_of c.args.vocabulary.now in
     let size : Err (fault FilterSize 0) ≡ read_steps names text =
-    elim c.then-is-empty.branch [
-      | then-is-empty-via-then-is-empty w ↦ empty names text (true-eqb _ _ w.if-is-empty.ensures)
-      | then-is-empty-via-else-is-empty+then-text-gt-MOST-TEXT w ↦ oversized names text w.if-text-gt-MOST-TEXT.true
+    elim c.then-is_empty.branch [
+      | then-is_empty-via-then-is_empty w ↦ empty names text (true-eqb _ _ w.if-is_empty.ensures)
+      | then-is_empty-via-else-is_empty+then-text-gt-MOST_TEXT w ↦ oversized names text w.if-text-gt-MOST_TEXT.true
     ] in
     record { answer = ap verdict size; after = ap (λ r. steps_after r (steps_of c.args.filter.now)) size; unchanged = refl; back = tt; theorem = reading }
 
-pub returns-in-err-steps : goal.returns-in-err-steps
-returns-in-err-steps c =
-    let p = err_from_is_err_and c.from-residual.result c.from-residual.ensures.1 in
+pub returns-in_err-steps : goal.returns-in_err-steps
+returns-in_err-steps c =
+    let p = err_from_is_err_and c.from_residual.result c.from_residual.ensures.1 in
     let text = c.args.text.now in
     let names = names_of c.args.vocabulary.now in
-    let some = false-eqb (length text) 0 c.if-is-empty.ensures in
-    let read : read_steps names text ≡ Err c.in-err-steps.field-0.0 = sized names text (omega arith) (omega arith) ∙ c.in-err-steps.ensures.answer in
+    let some = false-eqb (length text) 0 c.if-is_empty.ensures in
+    let read : read_steps names text ≡ Err c.in_err-steps.field-0.0 = sized names text (omega arith) (omega arith) ∙ c.in_err-steps.ensures.answer in
     record {
       answer = p.1 ∙ ap (λ f. Err f) p.2 ∙ ap verdict (sym read);
       after = ap (λ r. steps_after r (steps_of c.args.filter.now)) (sym read);
       unchanged = refused_by _ _ (λ y. refl);
-      back = IfOk-from_err _ _ c.from-residual.ensures.0;
+      back = IfOk-from_err _ _ c.from_residual.ensures.0;
       theorem = reading;
     }
 
@@ -58,10 +58,10 @@ returns-in-Some c =
     let names = names_of v in
     let size = length_names v.text.now v.table v.rows in
     let few = v.rows.0 in
-    let some = false-eqb (length text) 0 c.if-is-empty.ensures in
-    let row = c.in-ok-steps.steps in
-    let count = c.in-ok-steps.count in
-    let read : read_steps names text ≡ Ok (take count row) = sized names text (omega arith) (omega arith) ∙ c.in-ok-steps.ensures.answer.0 in
+    let some = false-eqb (length text) 0 c.if-is_empty.ensures in
+    let row = c.in_ok-steps.steps in
+    let count = c.in_ok-steps.count in
+    let read : read_steps names text ≡ Ok (take count row) = sized names text (omega arith) (omega arith) ∙ c.in_ok-steps.ensures.answer.0 in
     let made : Some (steps_of c.in-Some.read) ≡ Some (take count row) = made_of names v.each v.once (omega arith) text row count read _ c.in-Some.ensures.answer in
     let same : steps_of c.in-Some.read ≡ take count row = cc in
     record {
@@ -72,16 +72,16 @@ returns-in-Some c =
       theorem = reading;
     }
 
-pub returns-in-default : goal.returns-in-default
-returns-in-default c =
+pub returns-in_default : goal.returns-in_default
+returns-in_default c =
     let text = c.args.text.now in
     let v = c.args.vocabulary.now in
     let names = names_of v in
     let size = length_names v.text.now v.table v.rows in
     let few = v.rows.0 in
-    let some = false-eqb (length text) 0 c.if-is-empty.ensures in
-    let row = c.in-ok-steps.steps in
-    let count = c.in-ok-steps.count in
-    let read : read_steps names text ≡ Ok (take count row) = sized names text (omega arith) (omega arith) ∙ c.in-ok-steps.ensures.answer.0 in
-    let made : None ≡ Some (take count row) = made_of names v.each v.once (omega arith) text row count read _ c.in-default.ensures.answer in
+    let some = false-eqb (length text) 0 c.if-is_empty.ensures in
+    let row = c.in_ok-steps.steps in
+    let count = c.in_ok-steps.count in
+    let read : read_steps names text ≡ Ok (take count row) = sized names text (omega arith) (omega arith) ∙ c.in_ok-steps.ensures.answer.0 in
+    let made : None ≡ Some (take count row) = made_of names v.each v.once (omega arith) text row count read _ c.in_default.ensures.answer in
     absurd (false≢true (ap is_some made))

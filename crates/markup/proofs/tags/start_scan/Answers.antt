@@ -9,6 +9,6 @@ pub returns-in-62 : goal.returns-in-62
 returns-in-62 c =
     record { answer = opens c.args.rest.now (omega (arith, ltb-true, ltb-false)) (omega (arith, ltb-true, ltb-false)) }
 
-pub returns-in-default : goal.returns-in-default
-returns-in-default c =
-    record { answer = c.run.ensures.answer ∙ ap (λ m. run_of m c.args.rest.now) c.in-name-tag.ensures.answer ∙ run_on in_name c.args.rest.now }
+pub returns-in_default : goal.returns-in_default
+returns-in_default c =
+    record { answer = c.run.ensures.answer ∙ ap (λ m. run_of m c.args.rest.now) c.in_name-tag.ensures.answer ∙ run_on in_name c.args.rest.now }

@@ -13,7 +13,7 @@ returns g c =
     let ss = steps_of f in
     let es = s.events source in
     let some : 0 < length ss = omega (arith, length-take-le f.count f.steps (omega (arith, f.few, f.full)), f.some) in
-    let got = c.walk-along.ensures in
+    let got = c.walk_along.ensures in
     let is = got.answer ∙ same_answer ss (s.taken source) es (s.ending source) (s.sound source) in
     record {
       answer = is;

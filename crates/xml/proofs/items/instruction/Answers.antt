@@ -6,11 +6,11 @@ use Rattle.xml.specs.Items.{piece_by}
 use Rattle.xml.proofs.Pieces.{order_found, order_none}
 use Rattle.xml.proofs.items.instruction.Goals as goal
 
-pub overflow-add-result-in-Some : goal.overflow-add-result-in-Some
-overflow-add-result-in-Some c = omega (arith, order_found c.args.rest.now c.in-Some.n c.in-Some.ensures.answer)
+pub overflow_add-result-in-Some : goal.overflow_add-result-in-Some
+overflow_add-result-in-Some c = omega (arith, order_found c.args.rest.now c.in-Some.n c.in-Some.ensures.answer)
 
-pub overflow-add-result-in-Some-2 : goal.overflow-add-result-in-Some-2
-overflow-add-result-in-Some-2 c = omega (arith, order_found c.args.rest.now c.in-Some.n c.in-Some.ensures.answer)
+pub overflow_add-result-in-Some-2 : goal.overflow_add-result-in-Some-2
+overflow_add-result-in-Some-2 c = omega (arith, order_found c.args.rest.now c.in-Some.n c.in-Some.ensures.answer)
 
 pub returns-in-Some : goal.returns-in-Some
 returns-in-Some c =

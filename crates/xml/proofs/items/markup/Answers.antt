@@ -4,8 +4,8 @@ use Rattle.markup.specs.Bytes.{name_start}
 use Rattle.xml.proofs.Pieces.{at_bang_lem, at_ask, at_start, at_none, at_other}
 use Rattle.xml.proofs.items.markup.Goals as goal
 
-pub returns-in-empty : goal.returns-in-empty
-returns-in-empty c =
+pub returns-in_empty : goal.returns-in_empty
+returns-in_empty c =
     record { answer = ap (λ x. Err x) c.refusal.ensures.answer ∙ sym (at_none c.args.place c.args.rest.now (omega (arith, ltb-true, ltb-false))) }
 
 pub returns-in-33 : goal.returns-in-33
@@ -19,13 +19,13 @@ returns-in-63 c =
 pub returns-in-len1-up : goal.returns-in-len1-up
 unfolding name_start
 returns-in-len1-up c =
-    record { answer = sym (at_start c.args.place c.args.rest.now (λ q. omega (arith, ltb-true, ltb-false)) (sym c.if-is-name-start.ensures.answer)) }
+    record { answer = sym (at_start c.args.place c.args.rest.now (λ q. omega (arith, ltb-true, ltb-false)) (sym c.if-is_name_start.ensures.answer)) }
 
-pub returns-in-default : goal.returns-in-default
+pub returns-in_default : goal.returns-in_default
 unfolding name_start
-returns-in-default c =
+returns-in_default c =
     record {
       answer =
-          ap (λ x. Err x) c.refusal-in-default.ensures.answer
-          ∙ sym (at_other c.args.place c.args.rest.now (omega (arith, ltb-true, ltb-false)) (λ q. omega (arith, ltb-true, ltb-false)) (sym c.if-is-name-start.ensures.answer) (λ q. omega (arith, ltb-true, ltb-false)) (λ q. omega (arith, ltb-true, ltb-false)));
+          ap (λ x. Err x) c.refusal-in_default.ensures.answer
+          ∙ sym (at_other c.args.place c.args.rest.now (omega (arith, ltb-true, ltb-false)) (λ q. omega (arith, ltb-true, ltb-false)) (sym c.if-is_name_start.ensures.answer) (λ q. omega (arith, ltb-true, ltb-false)) (λ q. omega (arith, ltb-true, ltb-false)));
     }

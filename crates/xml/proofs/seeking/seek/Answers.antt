@@ -26,7 +26,7 @@ loop-place-preserved c =
     let m = c.args.message.now in
     let n = c.loop-place.place in
     let inside = c.args.inside in
-    let at = ap (λ x. Ok x) (sym c.in-Quiet.is) ∙ c.in-ok-next.ensures.answer in
+    let at = ap (λ x. Ok x) (sym c.in-Quiet.is) ∙ c.in_ok-next.ensures.answer in
     let lt = c.loop-place-test.true in
     let f = known m n inside lt (Ok (Quiet c.in-Quiet.next)) at in
     let inv = c.loop-place.invariant in (
@@ -39,7 +39,7 @@ pub loop-place-smaller : goal.loop-place-smaller
 loop-place-smaller c =
     let m = c.args.message.now in
     let n = c.loop-place.place in
-    let at = ap (λ x. Ok x) (sym c.in-Quiet.is) ∙ c.in-ok-next.ensures.answer in
+    let at = ap (λ x. Ok x) (sym c.in-Quiet.is) ∙ c.in_ok-next.ensures.answer in
     let f = known m n c.args.inside c.loop-place-test.true (Ok (Quiet c.in-Quiet.next)) at in
     omega arith
 
@@ -48,7 +48,7 @@ returns-in-Start c =
     let m = c.args.message.now in
     let n = c.loop-place.place in
     let inside = c.args.inside in
-    let at = ap (λ x. Ok x) (sym c.in-Start.is) ∙ c.in-ok-next.ensures.answer in
+    let at = ap (λ x. Ok x) (sym c.in-Start.is) ∙ c.in_ok-next.ensures.answer in
     let lt = c.loop-place-test.true in
     let f = known m n inside lt (Ok Start) at in
     let inv = c.loop-place.invariant in
@@ -62,7 +62,7 @@ returns-in-End c =
     let m = c.args.message.now in
     let n = c.loop-place.place in
     let inside = c.args.inside in
-    let at = ap (λ x. Ok x) (sym c.in-End.is) ∙ c.in-ok-next.ensures.answer in
+    let at = ap (λ x. Ok x) (sym c.in-End.is) ∙ c.in_ok-next.ensures.answer in
     let lt = c.loop-place-test.true in
     let f = known m n inside lt (Ok End) at in
     let inv = c.loop-place.invariant in
@@ -71,19 +71,19 @@ returns-in-End c =
       told = λ voc st h. let i = inv.2 voc st h in (i.0 ∙ angle_events m n lt voc st f.0, i.1 ∙ angle_ending m n lt voc st f.0);
     }
 
-pub returns-in-err-next : goal.returns-in-err-next
-returns-in-err-next c =
+pub returns-in_err-next : goal.returns-in_err-next
+returns-in_err-next c =
     let m = c.args.message.now in
     let n = c.loop-place.place in
     let inside = c.args.inside in
-    let q = c.in-err-next.field-0.0 in
-    let r = err_from_is_err_and c.from-residual.result c.from-residual.ensures.1 in
+    let q = c.in_err-next.field-0.0 in
+    let r = err_from_is_err_and c.from_residual.result c.from_residual.ensures.1 in
     let e = r.1 ∙ ap Err r.2 in
     let inv = c.loop-place.invariant in
     record {
       found = subst (SoughtIn m c.args.start) (sym e) tt;
       told = subst (SoughtTold m c.args.start inside) (sym e) (λ voc st h.
-          let t = tells m n inside c.loop-place-test.true (Err q) c.in-err-next.ensures.answer voc st h in
+          let t = tells m n inside c.loop-place-test.true (Err q) c.in_err-next.ensures.answer voc st h in
           let i = inv.2 voc st h in (i.0 ∙ t.0, i.1 ∙ t.1));
     }
 

@@ -9,9 +9,9 @@ use Rattle.xml.proofs.tags.end_from.Goals as goal
 pub returns-then-size-eq0 : goal.returns-then-size-eq0
 returns-then-size-eq0 c =
     let s = c.args.rest.now in
-    record { answer = unnamed s c.args.size _ c.if-size-eq0.true c.requires.named (c.run.ensures.answer ∙ ap (λ m. run_of m s) c.end-first-tag.ensures.answer ∙ run_on end_first s) }
+    record { answer = unnamed s c.args.size _ c.if-size-eq0.true c.requires.named (c.run.ensures.answer ∙ ap (λ m. run_of m s) c.end_first-tag.ensures.answer ∙ run_on end_first s) }
 
 pub returns : goal.returns
 returns c =
     let s = c.args.rest.now in
-    record { answer = closing_from s c.args.size _ c.if-size-eq0.false c.requires.named (c.end-scan.ensures.answer ∙ ap (scan_from end_name) c.from.ensures.answer) }
+    record { answer = closing_from s c.args.size _ c.if-size-eq0.false c.requires.named (c.end_scan.ensures.answer ∙ ap (scan_from end_name) c.from.ensures.answer) }

@@ -8,42 +8,42 @@ use Rattle.markup.proofs.Bounds.{Reaches}
 use Rattle.xml.proofs.Tagging.{start_reaches, start_is, start_spelt, start_misfit, start_cut, start_rest}
 use Rattle.xml.proofs.tags.start_at.Goals as goal
 
-pub overflow-add-result : goal.overflow-add-result
-overflow-add-result c =
+pub overflow_add-result : goal.overflow_add-result
+overflow_add-result c =
     let m = c.args.message.now in
     let p = c.args.place in
-    let size = c.name-len-size.result in
-    let e : size ≡ name_size (drop (p + 1) m) = c.name-len-size.ensures.answer ∙ ap name_size c.from.ensures.answer in
+    let size = c.name_len-size.result in
+    let e : size ≡ name_size (drop (p + 1) m) = c.name_len-size.ensures.answer ∙ ap name_size c.from.ensures.answer in
     let some = c.requires.named in
     let small = c.requires.small in
     let inside = c.from.ensures.len in
-    let upto = c.name-len-size.ensures.within in
+    let upto = c.name_len-size.ensures.within in
     let far = start_reaches m p size some e _ (c.in-Opening.ensures.answer ∙ ap (scan_from in_name) c.from-2.ensures.answer) in
     omega arith
 
-pub overflow-add-result-in-Empty : goal.overflow-add-result-in-Empty
-overflow-add-result-in-Empty c =
+pub overflow_add-result-in-Empty : goal.overflow_add-result-in-Empty
+overflow_add-result-in-Empty c =
     let m = c.args.message.now in
     let p = c.args.place in
-    let size = c.name-len-size.result in
-    let e : size ≡ name_size (drop (p + 1) m) = c.name-len-size.ensures.answer ∙ ap name_size c.from.ensures.answer in
+    let size = c.name_len-size.result in
+    let e : size ≡ name_size (drop (p + 1) m) = c.name_len-size.ensures.answer ∙ ap name_size c.from.ensures.answer in
     let some = c.requires.named in
     let small = c.requires.small in
     let inside = c.from.ensures.len in
-    let upto = c.name-len-size.ensures.within in
+    let upto = c.name_len-size.ensures.within in
     let far = start_reaches m p size some e _ (c.in-Empty.ensures.answer ∙ ap (scan_from in_name) c.from-2.ensures.answer) in
     omega arith
 
-pub overflow-add-end-in-Misfit : goal.overflow-add-end-in-Misfit
-overflow-add-end-in-Misfit c =
+pub overflow_add-end-in-Misfit : goal.overflow_add-end-in-Misfit
+overflow_add-end-in-Misfit c =
     let m = c.args.message.now in
     let p = c.args.place in
-    let size = c.name-len-size.result in
-    let e : size ≡ name_size (drop (p + 1) m) = c.name-len-size.ensures.answer ∙ ap name_size c.from.ensures.answer in
+    let size = c.name_len-size.result in
+    let e : size ≡ name_size (drop (p + 1) m) = c.name_len-size.ensures.answer ∙ ap name_size c.from.ensures.answer in
     let some = c.requires.named in
     let small = c.requires.small in
     let inside = c.from.ensures.len in
-    let upto = c.name-len-size.ensures.within in
+    let upto = c.name_len-size.ensures.within in
     let far = start_reaches m p size some e _ (c.in-Misfit.ensures.answer ∙ ap (scan_from in_name) c.from-2.ensures.answer) in
     omega arith
 
@@ -51,12 +51,12 @@ pub refusal-requires : goal.refusal-requires
 refusal-requires c =
     let m = c.args.message.now in
     let p = c.args.place in
-    let size = c.name-len-size.result in
-    let e : size ≡ name_size (drop (p + 1) m) = c.name-len-size.ensures.answer ∙ ap name_size c.from.ensures.answer in
+    let size = c.name_len-size.result in
+    let e : size ≡ name_size (drop (p + 1) m) = c.name_len-size.ensures.answer ∙ ap name_size c.from.ensures.answer in
     let some = c.requires.named in
     let small = c.requires.small in
     let inside = c.from.ensures.len in
-    let upto = c.name-len-size.ensures.within in
+    let upto = c.name_len-size.ensures.within in
     let far = start_reaches m p size some e _ (c.in-Misfit.ensures.answer ∙ ap (scan_from in_name) c.from-2.ensures.answer) in
     record { small = omega arith }
 
@@ -64,11 +64,11 @@ pub returns-in-Opening : goal.returns-in-Opening
 returns-in-Opening c =
     let m = c.args.message.now in
     let p = c.args.place in
-    let size = c.name-len-size.result in
-    let e : size ≡ name_size (drop (p + 1) m) = c.name-len-size.ensures.answer ∙ ap name_size c.from.ensures.answer in
+    let size = c.name_len-size.result in
+    let e : size ≡ name_size (drop (p + 1) m) = c.name_len-size.ensures.answer ∙ ap name_size c.from.ensures.answer in
     let some = c.requires.named in
     let inside = c.from.ensures.len in
-    let upto = c.name-len-size.ensures.within in
+    let upto = c.name_len-size.ensures.within in
     record {
       answer = (
         start_is m p size some e _ (c.in-Opening.ensures.answer ∙ ap (scan_from in_name) c.from-2.ensures.answer) opening c.in-Opening.n refl true (omega arith) refl,
@@ -81,11 +81,11 @@ pub returns-in-Empty : goal.returns-in-Empty
 returns-in-Empty c =
     let m = c.args.message.now in
     let p = c.args.place in
-    let size = c.name-len-size.result in
-    let e : size ≡ name_size (drop (p + 1) m) = c.name-len-size.ensures.answer ∙ ap name_size c.from.ensures.answer in
+    let size = c.name_len-size.result in
+    let e : size ≡ name_size (drop (p + 1) m) = c.name_len-size.ensures.answer ∙ ap name_size c.from.ensures.answer in
     let some = c.requires.named in
     let inside = c.from.ensures.len in
-    let upto = c.name-len-size.ensures.within in
+    let upto = c.name_len-size.ensures.within in
     record {
       answer = (
         start_is m p size some e _ (c.in-Empty.ensures.answer ∙ ap (scan_from in_name) c.from-2.ensures.answer) empty c.in-Empty.n refl false (omega arith) refl,
@@ -98,21 +98,21 @@ pub returns-in-Misfit : goal.returns-in-Misfit
 returns-in-Misfit c =
     let m = c.args.message.now in
     let p = c.args.place in
-    let size = c.name-len-size.result in
-    let e : size ≡ name_size (drop (p + 1) m) = c.name-len-size.ensures.answer ∙ ap name_size c.from.ensures.answer in
+    let size = c.name_len-size.result in
+    let e : size ≡ name_size (drop (p + 1) m) = c.name_len-size.ensures.answer ∙ ap name_size c.from.ensures.answer in
     let some = c.requires.named in
     record { answer = start_misfit m p size some e _ (c.in-Misfit.ensures.answer ∙ ap (scan_from in_name) c.from-2.ensures.answer) c.in-Misfit.n refl ∙ ap (λ x. Some x) (sym c.refusal.ensures.answer) }
 
-pub returns-in-default : goal.returns-in-default
-returns-in-default c =
+pub returns-in_default : goal.returns-in_default
+returns-in_default c =
     let m = c.args.message.now in
     let p = c.args.place in
-    let size = c.name-len-size.result in
-    let e : size ≡ name_size (drop (p + 1) m) = c.name-len-size.ensures.answer ∙ ap name_size c.from.ensures.answer in
+    let size = c.name_len-size.result in
+    let e : size ≡ name_size (drop (p + 1) m) = c.name_len-size.ensures.answer ∙ ap name_size c.from.ensures.answer in
     let some = c.requires.named in
-    let is = c.start-scan.ensures.answer ∙ ap (scan_from in_name) c.from-2.ensures.answer in
+    let is = c.start_scan.ensures.answer ∙ ap (scan_from in_name) c.from-2.ensures.answer in
     record {
       answer =
-          start_cut m p size some e _ is (start_rest c.start-scan.result (drop (p + 1 + size) m) is c.in-default.not-Opening c.in-default.not-Empty c.in-default.not-Misfit)
-          ∙ ap (λ x. Some x) (sym c.refusal-in-default.ensures.answer);
+          start_cut m p size some e _ is (start_rest c.start_scan.result (drop (p + 1 + size) m) is c.in_default.not-Opening c.in_default.not-Empty c.in_default.not-Misfit)
+          ∙ ap (λ x. Some x) (sym c.refusal-in_default.ensures.answer);
     }

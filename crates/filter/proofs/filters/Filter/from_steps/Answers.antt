@@ -14,17 +14,17 @@ loop-i-preserved c =
 same : (given row : List Step) (i : ℕ) → i ≡ length given → take i row ≡ take i given → take (length given) row ≡ given
 same given row i end e = subst (λ k. take k row ≡ take k given) end e ∙ take_all (length given) given (omega arith)
 
-pub invariant-of-result : goal.invariant-of-result
-invariant-of-result c =
+pub invariant_of-result : goal.invariant_of-result
+invariant_of-result c =
     let given = c.args.given.now in
-    let some = false-eqb (length given) 0 c.if-is-empty.ensures in
+    let some = false-eqb (length given) 0 c.if-is_empty.ensures in
     let is = same given c.loop-i.steps c.loop-i.i (omega arith) c.loop-i.invariant.1 in
-    (omega arith, (omega arith, (c.loop-i.invariant.0, (ap are_tests is ∙ sym c.if-not-all-known.ensures.answer, tt))))
+    (omega arith, (omega arith, (c.loop-i.invariant.0, (ap are_tests is ∙ sym c.if-not-all_known.ensures.answer, tt))))
 
 pub returns : goal.returns
 returns c =
     let given = c.args.given.now in
-    let some = false-eqb (length given) 0 c.if-is-empty.ensures in
+    let some = false-eqb (length given) 0 c.if-is_empty.ensures in
     let is = same given c.loop-i.steps c.loop-i.i (omega arith) c.loop-i.invariant.1 in
-    let pass = good given (omega arith) (omega arith) c.if-not-all-known.ensures.answer in
+    let pass = good given (omega arith) (omega arith) c.if-not-all_known.ensures.answer in
     record { answer = ap (λ l. Some l) is ∙ sym (ap (λ t. cond t (Some given) None) pass) }

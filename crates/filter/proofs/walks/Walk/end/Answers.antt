@@ -2,8 +2,8 @@ use Rattle.std.proofs.Common.{◌≡◌, refl, arith}
 use Rattle.filter.proofs.Opens.{ended, path_less}
 use Rattle.filter.proofs.walks.Walk.end.Goals as goal
 
-pub invariant-of-self : goal.invariant-of-self
-invariant-of-self c =
+pub invariant_of-self : goal.invariant_of-self
+invariant_of-self c =
     let w = c.args.self.now in
     (omega arith, (omega arith, (w.wide, (ended w.filter w.path w.masks c.retreat.new.masks w.depth (omega arith) w.eight w.kept c.retreat.ensures, tt))))
 

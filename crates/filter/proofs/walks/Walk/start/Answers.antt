@@ -12,8 +12,8 @@ advance-hit-requires c =
     let w = c.args.self.now in
     record { room = omega arith; path = length-set _ _ _ ∙ w.wide; masks = w.eight; before = kept_set w.filter w.path w.masks w.depth c.args.code w.kept }
 
-pub invariant-of-self : goal.invariant-of-self
-invariant-of-self c =
+pub invariant_of-self : goal.invariant_of-self
+invariant_of-self c =
     let w = c.args.self.now in
     (omega arith, (omega arith, (length-set _ _ _ ∙ w.wide, (subst (λ d. Columns w.filter (set w.path w.depth c.args.code) c.advance-hit.new.masks d) (sym (add-one w.depth)) c.advance-hit.ensures.after, tt))))
 
@@ -33,8 +33,8 @@ returns c =
       theorem = one_more_step;
     }
 
-pub returns-then-depth-ge-MOST-OPEN : goal.returns-then-depth-ge-MOST-OPEN
-returns-then-depth-ge-MOST-OPEN c =
+pub returns-then-depth-ge-MOST_OPEN : goal.returns-then-depth-ge-MOST_OPEN
+returns-then-depth-ge-MOST_OPEN c =
     let w = c.args.self.now in
     let wide = w.wide in
     let l = length-take-le w.depth w.path (omega arith) in

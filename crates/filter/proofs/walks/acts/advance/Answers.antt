@@ -21,4 +21,4 @@ marked-requires c = record {
 }
 
 pub loop-k-preserved : goal.loop-k-preserved
-loop-k-preserved c = turn _ _ _ _ _ _ _ _ _ c.loop-k.invariant (omega arith) (omega arith) _ _ _ c.takes-hit.ensures c.is-newest-behind.ensures c.marked.ensures
+loop-k-preserved c = turn _ _ _ _ _ _ _ _ _ c.loop-k.invariant (omega arith) (omega arith) _ _ _ c.takes-hit.ensures c.is_newest-behind.ensures c.marked.ensures

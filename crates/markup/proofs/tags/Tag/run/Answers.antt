@@ -31,7 +31,7 @@ loop-n-preserved c =
     let lt : n < length bs = omega arith in
     let m' = standing c.step.new.self in (
       omega arith,
-      sym (goes n m' (drop (n + 1) bs) (sym c.in-default.ensures.answer))
+      sym (goes n m' (drop (n + 1) bs) (sym c.in_default.ensures.answer))
           ∙ sym (taken bs n lt (standing c.loop-n.self) m' c.step.ensures.after)
           ∙ c.loop-n.invariant.1,
     )

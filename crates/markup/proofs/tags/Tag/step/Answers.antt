@@ -28,31 +28,31 @@ returns c =
       | goal.in-EndName-Start w ↦ search rules
       | goal.in-Opening-default w ↦ search rules
       | goal.in-EndName-Close w ↦ search rules
-      | goal.in-EndName-Close·2 w ↦ search rules
+      | goal.in-EndName-Close-2 w ↦ search rules
       | goal.in-EndName-White w ↦ search rules
-      | goal.in-EndName-White·2 w ↦ search rules
+      | goal.in-EndName-White-2 w ↦ search rules
       | goal.in-Word-Equals w ↦ search rules
-      | goal.in-Word-Equals·2 w ↦ search rules
+      | goal.in-Word-Equals-2 w ↦ search rules
       | goal.in-Word-White w ↦ search rules
-      | goal.in-Word-White·2 w ↦ search rules
-      | goal.in-default w ↦ search rules
-      | goal.in-default·2 w ↦ search rules
-      | goal.in-default·3 w ↦ search rules
-      | goal.in-default·4 w ↦ search rules
-      | goal.in-default·5 w ↦ search rules
-      | goal.in-default·6 w ↦ search rules
-      | goal.in-default·7 w ↦ search rules
-      | goal.in-default·8 w ↦ search rules
-      | goal.in-default·9 w ↦ search rules
-      | goal.in-default·10 w ↦ search rules
+      | goal.in-Word-White-2 w ↦ search rules
+      | goal.in_default w ↦ search rules
+      | goal.in-default-2 w ↦ search rules
+      | goal.in-default-3 w ↦ search rules
+      | goal.in-default-4 w ↦ search rules
+      | goal.in-default-5 w ↦ search rules
+      | goal.in-default-6 w ↦ search rules
+      | goal.in-default-7 w ↦ search rules
+      | goal.in-default-8 w ↦ search rules
+      | goal.in-default-9 w ↦ search rules
+      | goal.in-default-10 w ↦ search rules
       | goal.in-Name-Close w ↦ search rules
-      | goal.in-Name-Close·2 w ↦ search rules
-      | goal.in-Name-Close·3 w ↦ search rules
+      | goal.in-Name-Close-2 w ↦ search rules
+      | goal.in-Name-Close-3 w ↦ search rules
       | goal.in-Name-Slash w ↦ search rules
-      | goal.in-Name-Slash·2 w ↦ search rules
-      | goal.in-Name-Slash·3 w ↦ search rules
+      | goal.in-Name-Slash-2 w ↦ search rules
+      | goal.in-Name-Slash-3 w ↦ search rules
       | goal.in-Name-White w ↦ search rules
-      | goal.in-Name-White·2 w ↦ search rules
-      | goal.in-Name-White·3 w ↦ search rules
+      | goal.in-Name-White-2 w ↦ search rules
+      | goal.in-Name-White-3 w ↦ search rules
     ] in
     record { table = row; after = ap move_of row ∙ bridge mode (class_of byte) byte (known byte) }

@@ -9,9 +9,9 @@ pub loop-code-init : goal.loop-code-init
 loop-code-init c =
     let t = c.args.self.now in
     let text = c.args.text.now in
-    let b = c.bucket-of.ensures.answer in
+    let b = c.bucket_of.ensures.answer in
     looking_first (names_in text t) c.args.name.now t.count (length_names text t c.requires.rows) _
-    (c.requires.chains.0 c.bucket-of.result c.bucket-of.ensures.within ∙ ap (λ h. latest (names_in text t) h t.count) b)
+    (c.requires.chains.0 c.bucket_of.result c.bucket_of.ensures.within ∙ ap (λ h. latest (names_in text t) h t.count) b)
 
 pub name-requires : goal.name-requires
 name-requires c =
@@ -19,23 +19,23 @@ name-requires c =
     let some = c.loop-code-test.true in
     record { rows = c.requires.rows; within = omega arith }
 
-pub returns-then-is-same-name : goal.returns-then-is-same-name
-returns-then-is-same-name c =
+pub returns-then-is_same_name : goal.returns-then-is_same_name
+returns-then-is_same_name c =
     let t = c.args.self.now in
     let text = c.args.text.now in
     record {
       answer = looking_found (names_in text t) c.args.name.now t.count (length_names text t c.requires.rows) c.loop-code.code c.loop-code-test.true c.loop-code.invariant
-          (c.if-is-same-name.ensures.answer ∙ ap (λ n. bytes_eq n c.args.name.now) c.name.ensures.answer);
+          (c.if-is_same_name.ensures.answer ∙ ap (λ n. bytes_eq n c.args.name.now) c.name.ensures.answer);
     }
 
-next : (c : goal.After-way-told-in-loop-code·1) → ((get_or c.args.self.now.lines (c.loop-code.code - 1) no_line).next < c.loop-code.code) × Looking (names_in c.args.text.now c.args.self.now) c.args.name.now c.args.self.now.count (get_or c.args.self.now.lines (c.loop-code.code - 1) no_line).next
+next : (c : goal.After-way_told-in-loop-code-1) → ((get_or c.args.self.now.lines (c.loop-code.code - 1) no_line).next < c.loop-code.code) × Looking (names_in c.args.text.now c.args.self.now) c.args.name.now c.args.self.now.count (get_or c.args.self.now.lines (c.loop-code.code - 1) no_line).next
 next c =
     let t = c.args.self.now in
     let text = c.args.text.now in
     let low = c.loop-code.invariant.0 in
     let some = c.loop-code-test.true in
     looking_next (names_in text t) c.args.name.now t.count (length_names text t c.requires.rows) c.loop-code.code some c.loop-code.invariant
-    (c.if-is-same-name.ensures.answer ∙ ap (λ n. bytes_eq n c.args.name.now) c.name.ensures.answer) _ (c.requires.chains.1 (c.loop-code.code - 1) (omega arith))
+    (c.if-is_same_name.ensures.answer ∙ ap (λ n. bytes_eq n c.args.name.now) c.name.ensures.answer) _ (c.requires.chains.1 (c.loop-code.code - 1) (omega arith))
 
 pub loop-code-smaller : goal.loop-code-smaller
 loop-code-smaller c = (next c).0

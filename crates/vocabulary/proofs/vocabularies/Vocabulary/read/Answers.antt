@@ -7,43 +7,43 @@ use Rattle.vocabulary.specs.Tables.{names_in}
 use Rattle.vocabulary.specs.Vocabularies.{read_names}
 use Rattle.vocabulary.proofs.Spelling.{accepts, sized, empty, oversized}
 use Rattle.vocabulary.proofs.vocabularies.Vocabulary.read.Goals as goal
-use Rattle.vocabulary.proofs.vocabularies.Vocabulary.read.Goals.{then-is-empty-via-then-is-empty, then-is-empty-via-else-is-empty+then-text-gt-MOST-BYTES}
+use Rattle.vocabulary.proofs.vocabularies.Vocabulary.read.Goals.{then-is_empty-via-then-is_empty, then-is_empty-via-else-is_empty+then-text-gt-MOST_BYTES}
 
-pub returns-then-is-empty : goal.returns-then-is-empty
-returns-then-is-empty c =
+pub returns-then-is_empty : goal.returns-then-is_empty
+returns-then-is_empty c =
     let text = c.args.text.now in
     let size : Err (fault VocabularySize 0) ≡ read_names text =
-    elim c.then-is-empty.branch [
-      | then-is-empty-via-then-is-empty w ↦ empty text (true-eqb _ _ w.if-is-empty.ensures)
-      | then-is-empty-via-else-is-empty+then-text-gt-MOST-BYTES w ↦ oversized text w.if-text-gt-MOST-BYTES.true
+    elim c.then-is_empty.branch [
+      | then-is_empty-via-then-is_empty w ↦ empty text (true-eqb _ _ w.if-is_empty.ensures)
+      | then-is_empty-via-else-is_empty+then-text-gt-MOST_BYTES w ↦ oversized text w.if-text-gt-MOST_BYTES.true
     ] in
     record { answer = ap verdict size; after = ap (λ r. names_after r (names_of c.args.self.now)) size; theorem = accepts }
 
-pub returns-in-err-table : goal.returns-in-err-table
-returns-in-err-table c =
-    let p = err_from_is_err_and c.from-residual.result c.from-residual.ensures.1 in
+pub returns-in_err-table : goal.returns-in_err-table
+returns-in_err-table c =
+    let p = err_from_is_err_and c.from_residual.result c.from_residual.ensures.1 in
     let text = c.args.text.now in
-    let some = false-eqb (length text) 0 c.if-is-empty.ensures in
-    let read : read_names text ≡ Err c.in-err-table.field-0.0 = sized text (omega arith) (omega arith) ∙ c.in-err-table.ensures.answer in
+    let some = false-eqb (length text) 0 c.if-is_empty.ensures in
+    let read : read_names text ≡ Err c.in_err-table.field-0.0 = sized text (omega arith) (omega arith) ∙ c.in_err-table.ensures.answer in
     record {
       answer = p.1 ∙ ap (λ f. Err f) p.2 ∙ ap verdict (sym read);
       after = ap (λ r. names_after r (names_of c.args.self.now)) (sym read);
       theorem = accepts;
     }
 
-pub invariant-of-self : goal.invariant-of-self
-invariant-of-self c =
+pub invariant_of-self : goal.invariant_of-self
+invariant_of-self c =
     let text = c.args.text.now in
-    let some = false-eqb (length text) 0 c.if-is-empty.ensures in
-    let table = c.in-ok-table.ensures.answer in
-    let spells = (accepts text (names_in text c.in-ok-table.table)).0 (sized text (omega arith) (omega arith) ∙ table.0) in
-    (spells.lines, (spells.each, (spells.once, (table.1, (table.2, tt)))))
+    let some = false-eqb (length text) 0 c.if-is_empty.ensures in
+    let table = c.in_ok-table.ensures.answer in
+    let spells = (accepts text (names_in text c.in_ok-table.table)).0 (sized text (omega arith) (omega arith) ∙ table.0) in
+    record { spelled = spells.lines; each = spells.each; once = spells.once; rows = table.1; chains = table.2 }
 
 pub returns : goal.returns
 returns c =
     let text = c.args.text.now in
-    let some = false-eqb (length text) 0 c.if-is-empty.ensures in
-    let read : read_names text ≡ Ok (names_in text c.in-ok-table.table) = sized text (omega arith) (omega arith) ∙ c.in-ok-table.ensures.answer.0 in
+    let some = false-eqb (length text) 0 c.if-is_empty.ensures in
+    let read : read_names text ≡ Ok (names_in text c.in_ok-table.table) = sized text (omega arith) (omega arith) ∙ c.in_ok-table.ensures.answer.0 in
     record {
       answer = ap verdict (sym read);
       after = ap (λ r. names_after r (names_of c.args.self.now)) (sym read);

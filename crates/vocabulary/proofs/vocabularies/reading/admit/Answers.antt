@@ -5,20 +5,20 @@ use Rattle.vocabulary.proofs.Lines.{length_names}
 use Rattle.vocabulary.proofs.Spelling.{admitted_as}
 use Rattle.vocabulary.proofs.vocabularies.reading.admit.Goals as goal
 
-pub returns-then-table-ge-MOST-NAMES : goal.returns-then-table-ge-MOST-NAMES
-returns-then-table-ge-MOST-NAMES c =
+pub returns-then-table-ge-MOST_NAMES : goal.returns-then-table-ge-MOST_NAMES
+returns-then-table-ge-MOST_NAMES c =
     let count = length_names c.args.text.now c.args.table.now c.requires.rows in
-    let full = c.if-table-ge-MOST-NAMES.true in
-    record { answer = admitted_as (names_in c.args.text.now c.args.table.now) c.args.place c.args.name.now true false _ c.if-not-is-short-name.ensures.answer (sym (le-ltb _ _ (omega arith))) refl }
+    let full = c.if-table-ge-MOST_NAMES.true in
+    record { answer = admitted_as (names_in c.args.text.now c.args.table.now) c.args.place c.args.name.now true false _ c.if-not-is_short_name.ensures.answer (sym (le-ltb _ _ (omega arith))) refl }
 
-pub returns-then-is-some : goal.returns-then-is-some
-returns-then-is-some c =
+pub returns-then-is_some : goal.returns-then-is_some
+returns-then-is_some c =
     let count = length_names c.args.text.now c.args.table.now c.requires.rows in
-    let room = c.if-table-ge-MOST-NAMES.false in
-    record { answer = admitted_as (names_in c.args.text.now c.args.table.now) c.args.place c.args.name.now true true true c.if-not-is-short-name.ensures.answer (sym (lt-ltb _ _ (omega arith))) (c.if-is-some.ensures ∙ ap is_some c.code-of.ensures.answer) }
+    let room = c.if-table-ge-MOST_NAMES.false in
+    record { answer = admitted_as (names_in c.args.text.now c.args.table.now) c.args.place c.args.name.now true true true c.if-not-is_short_name.ensures.answer (sym (lt-ltb _ _ (omega arith))) (c.if-is_some.ensures ∙ ap is_some c.code_of.ensures.answer) }
 
 pub returns : goal.returns
 returns c =
     let count = length_names c.args.text.now c.args.table.now c.requires.rows in
-    let room = c.if-table-ge-MOST-NAMES.false in
-    record { answer = admitted_as (names_in c.args.text.now c.args.table.now) c.args.place c.args.name.now true true false c.if-not-is-short-name.ensures.answer (sym (lt-ltb _ _ (omega arith))) (c.if-is-some.ensures ∙ ap is_some c.code-of.ensures.answer) }
+    let room = c.if-table-ge-MOST_NAMES.false in
+    record { answer = admitted_as (names_in c.args.text.now c.args.table.now) c.args.place c.args.name.now true true false c.if-not-is_short_name.ensures.answer (sym (lt-ltb _ _ (omega arith))) (c.if-is_some.ensures ∙ ap is_some c.code_of.ensures.answer) }

@@ -5,26 +5,26 @@ use Rattle.xml.specs.Texts.{codes_of, bytes_of, Turn}
 use Rattle.xml.proofs.Turns.{at_fault, unmet, some_open, closed_by_lem}
 use Rattle.xml.proofs.texts.TextReader.end_tag.Goals as goal
 
-pub returns-in-err-tag : goal.returns-in-err-tag
-returns-in-err-tag c =
+pub returns-in_err-tag : goal.returns-in_err-tag
+returns-in_err-tag c =
     let s = c.args.self.now in
-    let r = err_from_is_err_and c.from-residual.result c.from-residual.ensures.1 in
+    let r = err_from_is_err_and c.from_residual.result c.from_residual.ensures.1 in
     let e = r.1 ∙ ap Err r.2 in
-    record { turn = subst (λ x. Turn s x s) (sym e) (at_fault s c.args.place c.requires.idle c.requires.onwards c.in-err-tag.field-0.0 c.in-err-tag.ensures.answer) }
+    record { turn = subst (λ x. Turn s x s) (sym e) (at_fault s c.args.place c.requires.idle c.requires.onwards c.in_err-tag.field-0.0 c.in_err-tag.ensures.answer) }
 
-pub returns-in-err-meet : goal.returns-in-err-meet
-returns-in-err-meet c =
+pub returns-in_err-meet : goal.returns-in_err-meet
+returns-in_err-meet c =
     let s = c.args.self.now in
-    let t = c.in-ok-tag.tag in
-    let r = err_from_is_err_and c.from-residual-in-err-meet.result c.from-residual-in-err-meet.ensures.1 in
+    let t = c.in_ok-tag.tag in
+    let r = err_from_is_err_and c.from_residual-in_err-meet.result c.from_residual-in_err-meet.ensures.1 in
     let e = r.1 ∙ ap Err r.2 in
-    record { turn = subst (λ x. Turn s x s) (sym e) (unmet s c.args.place c.requires.idle c.requires.onwards t c.in-err-meet.field-0.0 c.in-ok-tag.ensures.answer (sym c.in-err-meet.ensures.answer)) }
+    record { turn = subst (λ x. Turn s x s) (sym e) (unmet s c.args.place c.requires.idle c.requires.onwards t c.in_err-meet.field-0.0 c.in_ok-tag.ensures.answer (sym c.in_err-meet.ensures.answer)) }
 
 pub returns : goal.returns
 returns c =
     let s = c.args.self.now in
-    let t = c.in-ok-tag.tag in
-    record { turn = closed_by_lem s c.args.place c.requires.idle c.requires.onwards t c.close-2.new.self c.in-ok-tag.ensures.answer (sym c.in-ok-meet.ensures.answer) c.close-2.ensures.after }
+    let t = c.in_ok-tag.tag in
+    record { turn = closed_by_lem s c.args.place c.requires.idle c.requires.onwards t c.close-2.new.self c.in_ok-tag.ensures.answer (sym c.in_ok-meet.ensures.answer) c.close-2.ensures.after }
 
 pub returns-in-Some : goal.returns-in-Some
 returns-in-Some c =

@@ -11,8 +11,8 @@ use Rattle.xml.proofs.texts.TextReader.met_at.Goals as goal
 abbrev none : Span
 none = record { start = 0; end = 0 }
 
-pub end-named-requires : goal.end-named-requires
-end-named-requires c =
+pub end_named-requires : goal.end_named-requires
+end_named-requires c =
     let s = c.args.self.now in
     let m = bytes_of s in
     let d = s.depth in
@@ -34,4 +34,4 @@ returns c =
     let low = s.shallow in
     let some = c.if-self-eq0.false in
     let tops = last (bytes_of s) s.spans s.depth none (omega arith) (omega arith) in
-    record { answer = met_by (bytes_of s) c.args.place c.end-named.result tops c.part.ensures.answer c.end-named.ensures.answer }
+    record { answer = met_by (bytes_of s) c.args.place c.end_named.result tops c.part.ensures.answer c.end_named.ensures.answer }

@@ -7,8 +7,8 @@ use Rattle.xml.specs.Items.{cut}
 use Rattle.xml.proofs.Stack.{pushed}
 use Rattle.xml.proofs.texts.TextReader.open.Goals as goal
 
-pub invariant-of-self : goal.invariant-of-self
-invariant-of-self c =
+pub invariant_of-self : goal.invariant_of-self
+invariant_of-self c =
     let r = c.args.self.now in
     let x = c.args.tag.name in
     let tag = c.requires.tag in

@@ -22,35 +22,35 @@ module _ (s : TextReader) (r : Answer) (small : length (bytes_of s) ≤ most_tex
   count : s.taken ≡ counted (events_of s) s.taken
   count = t.taken ∙ sym (ap (λ es. counted es s.taken) (events_are s small))
 
-pub returns-in-err-place : goal.returns-in-err-place
-returns-in-err-place c =
+pub returns-in_err-place : goal.returns-in_err-place
+returns-in_err-place c =
     let s = c.args.self.now in
-    let small : length (bytes_of s) ≤ most_text = c.if-self-gt-MOST-TEXT.false in
-    let q = err_from_is_err_and c.from-residual.result c.from-residual.ensures.1 in
+    let small : length (bytes_of s) ≤ most_text = c.if-self-gt-MOST_TEXT.false in
+    let q = err_from_is_err_and c.from_residual.result c.from_residual.ensures.1 in
     let e = q.1 ∙ ap Err q.2 in
-    let f = c.in-err-place.field-0.0 in
-    let h = c.in-err-place.ensures.told (codes_of s) (stand_of s) (inside_is s) in
-    let t = stay_by s c.from-residual.result (faulted f) e (idle_coming s small c.in-default.is ∙ h.0) h.1 in
+    let f = c.in_err-place.field-0.0 in
+    let h = c.in_err-place.ensures.told (codes_of s) (stand_of s) (inside_is s) in
+    let t = stay_by s c.from_residual.result (faulted f) e (idle_coming s small c.in_default.is ∙ h.0) h.1 in
     record { answer = said s _ small t; left = kept s _ small t; ending = refl; taken = count s _ small t; name = t.latest; code = t.code }
 
-pub start-tag-requires : goal.start-tag-requires
-start-tag-requires c =
+pub start_tag-requires : goal.start_tag-requires
+start_tag-requires c =
     let s = c.args.self.now in
-    let x = subst (λ y. SoughtIn (bytes_of s) s.place (Ok y)) c.in-Start.is c.in-ok-place.ensures.found in
-    let h = subst (λ y. SoughtBy (codes_of s) (stand_of s) (bytes_of s) s.place (Ok y)) c.in-Start.is (c.in-ok-place.ensures.told (codes_of s) (stand_of s) (inside_is s)) in
-    record { small = c.if-self-gt-MOST-TEXT.false; within = x.1; named = x.2; ahead = x.0; idle = c.in-default.is; onwards = h }
+    let x = subst (λ y. SoughtIn (bytes_of s) s.place (Ok y)) c.in-Start.is c.in_ok-place.ensures.found in
+    let h = subst (λ y. SoughtBy (codes_of s) (stand_of s) (bytes_of s) s.place (Ok y)) c.in-Start.is (c.in_ok-place.ensures.told (codes_of s) (stand_of s) (inside_is s)) in
+    record { small = c.if-self-gt-MOST_TEXT.false; within = x.1; named = x.2; ahead = x.0; idle = c.in_default.is; onwards = h }
 
-pub end-tag-requires : goal.end-tag-requires
-end-tag-requires c =
+pub end_tag-requires : goal.end_tag-requires
+end_tag-requires c =
     let s = c.args.self.now in
-    let x = subst (λ y. SoughtIn (bytes_of s) s.place (Ok y)) c.in-End.is c.in-ok-place.ensures.found in
-    let h = subst (λ y. SoughtBy (codes_of s) (stand_of s) (bytes_of s) s.place (Ok y)) c.in-End.is (c.in-ok-place.ensures.told (codes_of s) (stand_of s) (inside_is s)) in
-    record { small = c.if-self-gt-MOST-TEXT.false; within = x.1; slashed = x.2; ahead = x.0; idle = c.in-default.is; onwards = h }
+    let x = subst (λ y. SoughtIn (bytes_of s) s.place (Ok y)) c.in-End.is c.in_ok-place.ensures.found in
+    let h = subst (λ y. SoughtBy (codes_of s) (stand_of s) (bytes_of s) s.place (Ok y)) c.in-End.is (c.in_ok-place.ensures.told (codes_of s) (stand_of s) (inside_is s)) in
+    record { small = c.if-self-gt-MOST_TEXT.false; within = x.1; slashed = x.2; ahead = x.0; idle = c.in_default.is; onwards = h }
 
 pub returns-in-Last : goal.returns-in-Last
 returns-in-Last c =
     let s = c.args.self.now in
-    let small : length (bytes_of s) ≤ most_text = c.if-self-gt-MOST-TEXT.false in
-    let h = subst (λ y. SoughtBy (codes_of s) (stand_of s) (bytes_of s) s.place (Ok y)) c.in-Last.is (c.in-ok-place.ensures.told (codes_of s) (stand_of s) (inside_is s)) in
-    let t = stay_by s c.finish.result (last_ending s.over c.in-Last.place) c.finish.ensures.answer (idle_coming s small c.in-default.is ∙ h.0) h.1 in
+    let small : length (bytes_of s) ≤ most_text = c.if-self-gt-MOST_TEXT.false in
+    let h = subst (λ y. SoughtBy (codes_of s) (stand_of s) (bytes_of s) s.place (Ok y)) c.in-Last.is (c.in_ok-place.ensures.told (codes_of s) (stand_of s) (inside_is s)) in
+    let t = stay_by s c.finish.result (last_ending s.over c.in-Last.place) c.finish.ensures.answer (idle_coming s small c.in_default.is ∙ h.0) h.1 in
     record { answer = said s _ small t; left = kept s _ small t; ending = refl; taken = count s _ small t; name = t.latest; code = t.code }
