@@ -14,22 +14,22 @@ use vocabulary::{Fault, Question};
 // Reads a fresh source to its ending, and answers whether the filter hits its message, or the fault that ends it. A
 // source that was read from before is refused and left as it is.
 pub fn hit<S: Source>(filter: &Filter, source: &mut S) -> Result<bool, Fault>
-    ensures answer { result ≡ hit_answer (steps_of filter.now) (taken source.old) (events source.old) (ending source.old) }
-    ensures left { events source.new ≡ left_after (taken source.old) (events source.old) }
-    ensures ending { ending source.new ≡ ending source.old }
-    ensures taken { taken source.new ≡ taken_after (taken source.old) (events source.old) }
-    ensures rule { IfOk result (λ b. Decides b (Hits (steps_of filter.now) (events source.old))) }
-    ensures xpath { IfOk result (λ b. SelectedIn (steps_of filter.now) (events source.old) b) }
+    ensures answer { result ≡ hit_answer (steps_of filter.now) (S.taken source.old) (S.events source.old) (S.ending source.old) }
+    ensures left { S.events source.new ≡ left_after (S.taken source.old) (S.events source.old) }
+    ensures ending { S.ending source.new ≡ S.ending source.old }
+    ensures taken { S.taken source.new ≡ taken_after (S.taken source.old) (S.events source.old) }
+    ensures rule { IfOk result (λ b. Decides b (Hits (steps_of filter.now) (S.events source.old))) }
+    ensures xpath { IfOk result (λ b. SelectedIn (steps_of filter.now) (S.events source.old) b) }
 {
     walk_along(filter, source)
 }
 
 // The same, by a walk: it goes on after a hit, since the ending decides.
 fn walk_along<S: Source>(filter: &Filter, source: &mut S) -> Result<bool, Fault>
-    ensures answer { result ≡ walk_answer (steps_of filter.now) (taken source.old) (events source.old) (ending source.old) }
-    ensures left { events source.new ≡ left_after (taken source.old) (events source.old) }
-    ensures ending { ending source.new ≡ ending source.old }
-    ensures taken { taken source.new ≡ taken_after (taken source.old) (events source.old) }
+    ensures answer { result ≡ walk_answer (steps_of filter.now) (S.taken source.old) (S.events source.old) (S.ending source.old) }
+    ensures left { S.events source.new ≡ left_after (S.taken source.old) (S.events source.old) }
+    ensures ending { S.ending source.new ≡ S.ending source.old }
+    ensures taken { S.taken source.new ≡ taken_after (S.taken source.old) (S.events source.old) }
 {
     if !source.is_fresh() {
         return Err(Fault {

@@ -19,7 +19,7 @@ invariant_of-result c =
     let given = c.args.given.now in
     let some = false-eqb (length given) 0 c.if-is_empty.ensures in
     let is = same given c.loop-i.steps c.loop-i.i (omega arith) c.loop-i.invariant.1 in
-    (omega arith, (omega arith, (c.loop-i.invariant.0, (ap are_tests is ∙ sym c.if-not-all_known.ensures.answer, tt))))
+    record { some = omega arith; few = omega arith; full = c.loop-i.invariant.0; known = ap are_tests is ∙ sym c.if-not-all_known.ensures.answer }
 
 pub returns : goal.returns
 returns c =

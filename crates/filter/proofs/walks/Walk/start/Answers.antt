@@ -15,7 +15,7 @@ advance-hit-requires c =
 pub invariant_of-self : goal.invariant_of-self
 invariant_of-self c =
     let w = c.args.self.now in
-    (omega arith, (omega arith, (length-set _ _ _ ∙ w.wide, (subst (λ d. Columns w.filter (set w.path w.depth c.args.code) c.advance-hit.new.masks d) (sym (add-one w.depth)) c.advance-hit.ensures.after, tt))))
+    record { deep = omega arith; eight = omega arith; wide = length-set _ _ _ ∙ w.wide; kept = subst (λ d. Columns w.filter (set w.path w.depth c.args.code) c.advance-hit.new.masks d) (sym (add-one w.depth)) c.advance-hit.ensures.after }
 
 pub returns : goal.returns
 returns c =
