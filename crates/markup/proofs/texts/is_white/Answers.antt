@@ -7,9 +7,9 @@ pub returns-in_default : goal.returns-in_default
 unfolding white
 returns-in_default c = search rules
 
-pub returns-in-default-2 : goal.returns-in-default-2
+pub returns-in_default-2 : goal.returns-in_default-2
 unfolding white
-returns-in-default-2 c = search rules
+returns-in_default-2 c = search rules
 
 pub returns-in-32 : goal.returns-in-32
 unfolding white

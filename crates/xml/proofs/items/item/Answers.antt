@@ -3,7 +3,7 @@ use Rattle.std.proofs.Common.{◌≡◌, get_or, sym, ap, ◌∙◌, arith, ltb-
 use Rattle.xml.specs.Items.{item_of}
 use Rattle.xml.proofs.Pieces.{at_angle, at_text}
 use Rattle.xml.proofs.items.item.Goals as goal
-use Rattle.xml.proofs.items.item.Goals.{in_default-via-then-rest-lt1, in_default-via-else-rest-lt1+in-default·}
+use Rattle.xml.proofs.items.item.Goals.{in_default-via-then-rest-lt1, in_default-via-else-rest-lt1+in_default-1}
 
 pub returns-in-60 : goal.returns-in-60
 returns-in-60 c =
@@ -17,6 +17,6 @@ returns-in_default c =
     let some = c.requires.within in
     let ne : get_or s 0 0 ≡ 60 → ⊥ = elim c.in_default.branch [
       | in_default-via-then-rest-lt1 w ↦ λ q. omega (arith, ltb-true, ltb-false)
-      | in_default-via-else-rest-lt1+in-default· w ↦ λ q. omega (arith, ltb-true, ltb-false)
+      | in_default-via-else-rest-lt1+in_default-1 w ↦ λ q. omega (arith, ltb-true, ltb-false)
     ] in
     record { answer = c.text.ensures.answer ∙ at_text c.args.inside c.args.place s ne ∙ ap (item_of c.args.inside c.args.place) c.from-rest.ensures.answer }

@@ -6,7 +6,7 @@ use Rattle.markup.proofs.Scanning.{shifted_twice}
 use Rattle.xml.specs.Items.{piece_by}
 use Rattle.xml.proofs.Pieces.{past, two_dashes_lem, bang_short, dash_short, no_dash, one_dash_lem}
 use Rattle.xml.proofs.items.remark.Goals as goal
-use Rattle.xml.proofs.items.remark.Goals.{in_default-via-then-rest-lt2+in-default·, in_default-via-else-rest-lt2+in-45·+in-default·, in_default-via-else-rest-lt2+in-default·, then-rest-lt1, else-rest-lt1+then-rest-lt2+in-45·}
+use Rattle.xml.proofs.items.remark.Goals.{in_default-via-then-rest-lt2+in_default-1, in_default-via-else-rest-lt2+in-45+in_default-1, in_default-via-else-rest-lt2+in_default-1, then-rest-lt1, else-rest-lt1+then-rest-lt2+in-45-1}
 
 pub returns-in-45 : goal.returns-in-45
 returns-in-45 c =
@@ -18,17 +18,17 @@ pub returns-in_default : goal.returns-in_default
 returns-in_default c =
     let s = c.args.rest.now in
     let e : scan_from at_bang s ≡ begins_none = elim c.in_default.branch [
-      | in_default-via-then-rest-lt2+in-default· w ↦ no_dash s (omega (arith, ltb-true, ltb-false)) (λ q. omega (arith, ltb-true, ltb-false))
-      | in_default-via-else-rest-lt2+in-45·+in-default· w ↦ one_dash_lem s (omega (arith, ltb-true, ltb-false)) (omega (arith, ltb-true, ltb-false)) (λ q. omega (arith, ltb-true, ltb-false))
-      | in_default-via-else-rest-lt2+in-default· w ↦ no_dash s (omega (arith, ltb-true, ltb-false)) (λ q. omega (arith, ltb-true, ltb-false))
+      | in_default-via-then-rest-lt2+in_default-1 w ↦ no_dash s (omega (arith, ltb-true, ltb-false)) (λ q. omega (arith, ltb-true, ltb-false))
+      | in_default-via-else-rest-lt2+in-45+in_default-1 w ↦ one_dash_lem s (omega (arith, ltb-true, ltb-false)) (omega (arith, ltb-true, ltb-false)) (λ q. omega (arith, ltb-true, ltb-false))
+      | in_default-via-else-rest-lt2+in_default-1 w ↦ no_dash s (omega (arith, ltb-true, ltb-false)) (λ q. omega (arith, ltb-true, ltb-false))
     ] in
     record { answer = ap (λ x. Err x) c.refusal.ensures.answer ∙ sym (ap (λ x. piece_by c.args.place (shifted 1 x)) e) }
 
 pub returns-in_empty : goal.returns-in_empty
 returns-in_empty c =
     let s = c.args.rest.now in
-    let e : scan_from at_bang s ≡ cut_short = elim c.in-empty·.branch [
+    let e : scan_from at_bang s ≡ cut_short = elim c.in_empty-1.branch [
       | then-rest-lt1 w ↦ bang_short s (omega (arith, ltb-true, ltb-false))
-      | else-rest-lt1+then-rest-lt2+in-45· w ↦ dash_short s (omega (arith, ltb-true, ltb-false)) (omega (arith, ltb-true, ltb-false))
+      | else-rest-lt1+then-rest-lt2+in-45-1 w ↦ dash_short s (omega (arith, ltb-true, ltb-false)) (omega (arith, ltb-true, ltb-false))
     ] in
     record { answer = ap (λ x. Err x) c.refusal-in_empty.ensures.answer ∙ sym (ap (λ x. piece_by c.args.place (shifted 1 x)) e) }

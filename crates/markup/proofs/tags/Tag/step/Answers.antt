@@ -36,15 +36,15 @@ returns c =
       | goal.in-Word-White w ↦ search rules
       | goal.in-Word-White-2 w ↦ search rules
       | goal.in_default w ↦ search rules
-      | goal.in-default-2 w ↦ search rules
-      | goal.in-default-3 w ↦ search rules
-      | goal.in-default-4 w ↦ search rules
-      | goal.in-default-5 w ↦ search rules
-      | goal.in-default-6 w ↦ search rules
-      | goal.in-default-7 w ↦ search rules
-      | goal.in-default-8 w ↦ search rules
-      | goal.in-default-9 w ↦ search rules
-      | goal.in-default-10 w ↦ search rules
+      | goal.in_default-2 w ↦ search rules
+      | goal.in_default-3 w ↦ search rules
+      | goal.in_default-4 w ↦ search rules
+      | goal.in_default-5 w ↦ search rules
+      | goal.in_default-6 w ↦ search rules
+      | goal.in_default-7 w ↦ search rules
+      | goal.in_default-8 w ↦ search rules
+      | goal.in_default-9 w ↦ search rules
+      | goal.in_default-10 w ↦ search rules
       | goal.in-Name-Close w ↦ search rules
       | goal.in-Name-Close-2 w ↦ search rules
       | goal.in-Name-Close-3 w ↦ search rules
