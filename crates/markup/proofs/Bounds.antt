@@ -169,7 +169,7 @@ comes_later kind (ends k c) h = h
 comes_later kind begins_none h = tt
 comes_later kind (misfits c) h = tt
 
-comes_by : (side : Side) (kind : Kind → Bool) (bs : List ℕ) (m : Move) → Stays side kind m → ((s : State) → side s ≡ true → Comes kind (scan_from s bs)) → Comes kind (scan_by m (λ t. scan_from t bs))
+pub comes_by : (side : Side) (kind : Kind → Bool) (bs : List ℕ) (m : Move) → Stays side kind m → ((s : State) → side s ≡ true → Comes kind (scan_from s bs)) → Comes kind (scan_by m (λ t. scan_from t bs))
 comes_by side kind bs (on s) h ih = comes_later kind (scan_from s bs) (ih s h)
 comes_by side kind bs (ended k) h ih = h
 comes_by side kind bs misplaced h ih = tt

@@ -1,17 +1,20 @@
 -- The name of a tag stands alone in its bytes, and an end tag of a known name. Assumes nothing.
-use Rattle.std.proofs.Common.{◌≡◌, ℕ, zero, suc, ◌+◌, ◌-◌, ◌<◌, ◌≤◌, Bool, true, false, cond, List, [], ◌∷◌, length, get_or, take, drop, sym, refl, ap, ◌∙◌, arith, length-drop}
+use Rattle.std.proofs.Common.{◌≡◌, ℕ, zero, suc, ◌+◌, ◌-◌, ◌<◌, ◌≤◌, Bool, true, false, cond, eqb, List, [], ◌∷◌, length, get_or, take, drop, sym, refl, ap, ◌∙◌, subst, arith, length-drop}
 use Rattle.std.specs.List.{prefix_len}
 use Rattle.std.proofs.lemmas.List.{get_or-drop, length-take-le, drop_more}
 use Rattle.std.proofs.lemmas.List.Sums.{prefix_len-le-length}
 use Rattle.std.proofs.lemmas.Bool.{cond-true, cond-false}
 use Rattle.vocabulary.specs.Names.{is_name_start, is_name_byte, name_size}
-use Rattle.markup.specs.Bytes.{name_byte, white, front}
-use Rattle.markup.specs.Grammar.{closing}
-use Rattle.markup.specs.Tags.{end_name, ends, scan_from}
-use Rattle.markup.proofs.Fronts.{begins_name, name_leads, front_name}
+use Rattle.markup.specs.Bytes.{name_start, name_byte, white, front}
+use Rattle.markup.specs.Runs.{shifted}
+use Rattle.markup.specs.Grammar.{Kind, opening, empty, closing, comment, instruction}
+use Rattle.markup.specs.Tags.{at_open, end_first, end_name, on, after, Scan, cut_short, ends, begins_none, misfits, name_in, scan_by, scan_from}
+use Rattle.markup.proofs.Bounds.{start_kind, end_kind, quiet_kind, ending, Comes, comes_by, end_comes, quiet_comes}
+use Rattle.markup.proofs.Fronts.{begins_name, name_leads, named_start, front_name, front_take}
 use Rattle.xml.specs.declared.items.Span.{Span}
+use Rattle.xml.specs.declared.tags.Tagged.{Tagged}
 use Rattle.xml.specs.Items.{cut}
-use Rattle.xml.specs.Tags.{TagIs, ClosingFrom}
+use Rattle.xml.specs.Tags.{started_by, TagIs, ClosingFrom}
 use Rattle.xml.proofs.Tagging.{part_is, closing_from, end_is}
 
 pub name_within : (s : List ℕ) → name_size s ≤ length s
@@ -88,3 +91,58 @@ end_of_name m p name some whole lt at sl same =
     let ahead : drop n s ≡ 62 ∷ drop (n + 1) s = drop_more s n 0 (omega arith) ∙ ap (λ b. b ∷ drop (n + 1) s) byte in
     let is : ends closing 1 ≡ scan_from end_name (drop n s) = sym (ap (scan_from end_name) ahead) in
     end_is m p n e sl (ends closing 1) (closing_from s n (ends closing 1) (λ z. omega arith) e is) 1 false refl (omega arith)
+
+-- no kind is that of a start tag and of an end tag or of what tells nothing
+no_end : (k : Kind) → start_kind k ≡ true → end_kind k ≡ true → ⊥
+no_end opening h g = let z : ◌≡◌ {A = ℕ} 0 1 = cc in omega arith
+no_end empty h g = let z : ◌≡◌ {A = ℕ} 0 1 = cc in omega arith
+no_end closing h g = let z : ◌≡◌ {A = ℕ} 0 1 = cc in omega arith
+no_end comment h g = let z : ◌≡◌ {A = ℕ} 0 1 = cc in omega arith
+no_end instruction h g = let z : ◌≡◌ {A = ℕ} 0 1 = cc in omega arith
+
+no_quiet : (k : Kind) → start_kind k ≡ true → quiet_kind k ≡ true → ⊥
+no_quiet opening h g = let z : ◌≡◌ {A = ℕ} 0 1 = cc in omega arith
+no_quiet empty h g = let z : ◌≡◌ {A = ℕ} 0 1 = cc in omega arith
+no_quiet closing h g = let z : ◌≡◌ {A = ℕ} 0 1 = cc in omega arith
+no_quiet comment h g = let z : ◌≡◌ {A = ℕ} 0 1 = cc in omega arith
+no_quiet instruction h g = let z : ◌≡◌ {A = ℕ} 0 1 = cc in omega arith
+
+-- what ends as a start tag begins with a name
+start_named : (s : List ℕ) (k : Kind) (c : ℕ) → start_kind k ≡ true → scan_from at_open s ≡ ends k c → 0 < name_size s
+unfolding name_start
+start_named [] k c h e = absurd (let z : ◌≡◌ {A = ℕ} 0 1 = cc in omega arith)
+start_named (b ∷ s) k c h e = by_start (is_name_start b) refl
+  where
+    by_slash : (r : Bool) → is_name_start b ≡ false → eqb b 47 ≡ r → ⊥
+    by_slash true q r =
+        let is : after at_open b ≡ on end_first = cond-false _ _ _ q ∙ cond-true _ _ _ r in
+        let come : Comes end_kind (scan_by (on end_first) (λ t. scan_from t s)) = comes_by ending end_kind s (on end_first) refl (λ t g. end_comes t s g) in
+        no_end k h (subst (Comes end_kind) (ap (λ m. scan_by m (λ t. scan_from t s)) (sym is) ∙ e) come)
+    by_slash false q r = no_quiet k h (subst (Comes quiet_kind) e (quiet_comes (b ∷ s) r q))
+    by_start : (p : Bool) → is_name_start b ≡ p → 0 < cond p (1 + prefix_len is_name_byte s) 0
+    by_start true q = omega arith
+    by_start false q = absurd (by_slash (eqb b 47) q refl)
+
+shifted_least : (n c : ℕ) (k : Kind) (x : Scan) → shifted n x ≡ ends k c → n ≤ c
+shifted_least n c k cut_short e = absurd (let z : ◌≡◌ {A = ℕ} 0 1 = cc in omega arith)
+shifted_least n c k (ends j d) e = let z : n + d ≡ c = cc in omega arith
+shifted_least n c k begins_none e = absurd (let z : ◌≡◌ {A = ℕ} 0 1 = cc in omega arith)
+shifted_least n c k (misfits d) e = absurd (let z : ◌≡◌ {A = ℕ} 0 1 = cc in omega arith)
+
+starts : (f : Bool) → start_kind (started_by f) ≡ true
+starts true = refl
+starts false = refl
+
+named_in : (f : Bool) (bs : List ℕ) → name_in (started_by f) bs ≡ front name_byte bs
+named_in true bs = refl
+named_in false bs = refl
+
+-- the span of a start tag's name holds one name
+pub tag_name : (m : List ℕ) (p : ℕ) (f : Bool) (t : Tagged) → TagIs m p (started_by f) t → (t.name.start < t.name.end) × (t.name.end ≤ t.name.start + name_size (cut m t.name))
+tag_name m p f t is =
+    let s = drop (p + 1) m in
+    let some : 0 < name_size s = start_named s (started_by f) t.len (starts f) is.scan in
+    let far : name_size s ≤ t.len = shifted_least _ _ _ _ (sym (named_start s some) ∙ is.scan) in
+    let leads : name_size s ≡ prefix_len is_name_byte s = name_leads s some in
+    let spelt : cut m t.name ≡ front name_byte s = is.spelt ∙ named_in f (take t.len s) ∙ front_take s t.len (omega arith) in
+    opened_name m p t.name some is.order is.inside spelt

@@ -4,8 +4,8 @@ use Rattle.markup.specs.Bytes.{name_start}
 use Rattle.xml.proofs.Pieces.{at_bang_lem, at_ask, at_start, at_none, at_other}
 use Rattle.xml.proofs.items.markup.Goals as goal
 
-pub returns-in_empty : goal.returns-in_empty
-returns-in_empty c =
+pub returns-in-empty : goal.returns-in-empty
+returns-in-empty c =
     record { answer = ap (λ x. Err x) c.refusal.ensures.answer ∙ sym (at_none c.args.place c.args.rest.now (omega (arith, ltb-true, ltb-false))) }
 
 pub returns-in-33 : goal.returns-in-33

@@ -24,11 +24,11 @@ returns-in_default c =
     ] in
     record { answer = ap (λ x. Err x) c.refusal.ensures.answer ∙ sym (ap (λ x. piece_by c.args.place (shifted 1 x)) e) }
 
-pub returns-in_empty : goal.returns-in_empty
-returns-in_empty c =
+pub returns-in-empty : goal.returns-in-empty
+returns-in-empty c =
     let s = c.args.rest.now in
-    let e : scan_from at_bang s ≡ cut_short = elim c.in_empty-1.branch [
+    let e : scan_from at_bang s ≡ cut_short = elim c.in-empty-1.branch [
       | then-rest-lt1 w ↦ bang_short s (omega (arith, ltb-true, ltb-false))
       | else-rest-lt1+then-rest-lt2+in-45-1 w ↦ dash_short s (omega (arith, ltb-true, ltb-false)) (omega (arith, ltb-true, ltb-false))
     ] in
-    record { answer = ap (λ x. Err x) c.refusal-in_empty.ensures.answer ∙ sym (ap (λ x. piece_by c.args.place (shifted 1 x)) e) }
+    record { answer = ap (λ x. Err x) c.refusal-in-empty.ensures.answer ∙ sym (ap (λ x. piece_by c.args.place (shifted 1 x)) e) }

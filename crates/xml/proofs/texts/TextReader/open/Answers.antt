@@ -4,6 +4,7 @@ use Rattle.std.proofs.lemmas.List.Elements.{AllWithin-more_set}
 use Rattle.vocabulary.specs.Names.{name_size}
 use Rattle.xml.specs.Fields.{owed}
 use Rattle.xml.specs.Items.{cut}
+use Rattle.xml.proofs.Named.{tag_name}
 use Rattle.xml.proofs.Stack.{pushed}
 use Rattle.xml.proofs.texts.TextReader.open.Goals as goal
 
@@ -17,28 +18,22 @@ invariant_of-self c =
     let full = r.full in
     let fewer = r.fewer in
     let none = ap owed c.requires.idle in
-    let lt : r.depth < length r.spans = omega arith in (
-      tag.reach,
-      (
-        length-set r.spans r.depth x ∙ full,
-        (
-          omega arith,
-          (
-            AllWithin-more_set r.spans r.depth x lt (λ y. y.start < y.end) r.ordered c.requires.some,
-            (
-              AllWithin-more_set r.spans r.depth x lt (λ y. y.end ≤ length r.message.now) r.inside tag.inside,
-              (
-                AllWithin-more_set r.spans r.depth x lt (λ y. y.end ≤ y.start + name_size (cut r.message.now y)) r.spelt c.requires.name,
-                (
-                  λ h. absurd (let f = c.requires.fresh in let z : ◌≡◌ {A = Bool} true false = sym h ∙ f in let q : ◌≡◌ {A = ℕ} 0 1 = cc in omega arith),
-                  (tag.order, (tag.inside, (omega arith, (λ z. absurd (omega arith), tt)))),
-                ),
-              ),
-            ),
-          ),
-        ),
-      ),
-    )
+    let lt : r.depth < length r.spans = omega arith in
+    let named = tag_name r.message.now c.args.place c.args.tag.filled c.args.tag tag in
+    record {
+      placed = tag.reach;
+      full = length-set r.spans r.depth x ∙ full;
+      shallow = omega arith;
+      ordered = AllWithin-more_set r.spans r.depth x lt (λ y. y.start ≤ y.end) r.ordered tag.order;
+      some = AllWithin-more_set r.spans r.depth x lt (λ y. y.start < y.end) r.some named.0;
+      inside = AllWithin-more_set r.spans r.depth x lt (λ y. y.end ≤ length r.message.now) r.inside tag.inside;
+      spelt = AllWithin-more_set r.spans r.depth x lt (λ y. y.end ≤ y.start + name_size (cut r.message.now y)) r.spelt named.1;
+      rooted = λ h. absurd (let f = c.requires.fresh in let z : ◌≡◌ {A = Bool} true false = sym h ∙ f in let q : ◌≡◌ {A = ℕ} 0 1 = cc in omega arith);
+      named = tag.order;
+      within = tag.inside;
+      fewer = omega arith;
+      begun = λ z. absurd (omega arith);
+    }
 
 pub returns : goal.returns
 returns c =

@@ -4,7 +4,6 @@ use Rattle.std.proofs.lemmas.Result.{err_from_is_err_and}
 use Rattle.markup.specs.Documents.{code_or_0}
 use Rattle.xml.specs.Tags.{started_by, TagIs}
 use Rattle.xml.specs.Texts.{codes_of, bytes_of, Turn}
-use Rattle.xml.proofs.Named.{opened_name}
 use Rattle.xml.proofs.Turns.{at_fault, may_open, not_admitted, opened, passed}
 use Rattle.xml.proofs.texts.TextReader.start_tag.Goals as goal
 
@@ -48,6 +47,5 @@ open-requires c =
     let s = c.args.self.now in
     let t = c.in_ok-tag.tag in
     let tag = c.in_ok-tag.ensures.answer in
-    let named = opened_name (bytes_of s) c.args.place t.name c.requires.named tag.0.order tag.0.inside tag.2 in
     let fine = may_open s.over s.depth c.args.place (sym c.in_ok-admit.ensures.answer) in
-    record { tag = tag.0; some = named.0; name = named.1; ahead = c.requires.ahead; idle = c.requires.idle; fresh = fine.0; room = fine.1 }
+    record { tag = tag.0; ahead = c.requires.ahead; idle = c.requires.idle; fresh = fine.0; room = fine.1 }
