@@ -1,4 +1,4 @@
-// One call for a host in C: does this filter hit this message?
+// One call for a host: does this filter hit this message? The crate host_c hands it to hosts in C.
 #![tactic(auto)]
 
 ghost use Rattle.std.specs.Prelude.{◌≡◌};
@@ -23,8 +23,7 @@ fn ask(vocabulary: &[u8], filter: &[u8], message: &[u8]) -> Result<bool, Fault>
 }
 
 // 1 for a hit, 0 for none, or the number of the first fault times 4,294,967,296 and its place.
-#[unsafe(no_mangle)]
-pub extern "C" fn lozghemi_hit(vocabulary: &[u8], filter: &[u8], message: &[u8]) -> u64
+pub fn lozghemi_hit(vocabulary: &[u8], filter: &[u8], message: &[u8]) -> u64
     ensures answer { result ≡ host_answer vocabulary.now filter.now message.now }
 {
     match ask(vocabulary, filter, message) {

@@ -8,6 +8,7 @@ use filter::Filter;
 use filter_text::read_filter;
 use message::hit;
 use recording::Recording;
+use std::process::ExitCode;
 use std::{env, fs};
 use vocabulary::{Fault, Vocabulary};
 use words::words_in;
@@ -51,7 +52,7 @@ fn run_hit(rt: &HostRuntime, words: &[String]) -> anyhow::Result<()> {
     }
     if unread > 0 {
         let line = format!(in rt.alloc(); "{unread} of the files hold no message, see above")?;
-        return Err(line.into());
+        return Err(anyhow!(line));
     }
     Ok(())
 }
@@ -63,7 +64,7 @@ fn refusal(
     fault: Fault,
 ) -> anyhow::Result<anyhow::Error> {
     let line = format!(in rt.alloc(); "{kind} {name}: {fault}")?;
-    Ok(line.into())
+    Ok(anyhow!(line))
 }
 
 fn read_file(rt: &HostRuntime, path: &str) -> anyhow::Result<Vec<u8>> {
@@ -71,7 +72,7 @@ fn read_file(rt: &HostRuntime, path: &str) -> anyhow::Result<Vec<u8>> {
         Ok(bytes) => Ok(bytes),
         Err(error) => {
             let line = format!(in rt.alloc(); "{path}: cannot be read: {error}")?;
-            Err(line.into())
+            Err(anyhow!(line))
         }
     }
 }
@@ -138,10 +139,11 @@ fn run(rt: &HostRuntime) -> anyhow::Result<()> {
     }
 }
 
-fn main(rt: HostRuntime) -> anyhow::Result<()> {
-    let outcome = run(&rt);
-    if let Err(error) = &outcome {
-        eprintln!(rt; "router: {error}")?;
-    }
-    outcome
+fn main(rt: HostRuntime) -> ExitCode {
+    let Err(error) = run(&rt) else {
+        return ExitCode::SUCCESS;
+    };
+    // where this fails there is nowhere left to tell it
+    let _told = eprintln!(rt; "router: {error}");
+    ExitCode::FAILURE
 }
