@@ -49,10 +49,10 @@ fn codes(rt: HostRuntime) {
 
 #[test]
 fn numbers(rt: HostRuntime) -> Result<(), Fail> {
-    assert_eq!(rt; Filter::new().steps(), &[ANY]);
+    assert_eq!(rt; Filter::new().steps(), [ANY].as_slice());
     let filter = made(&[D, G, ANY])?;
     assert_eq!(rt; filter.len(), 3);
-    assert_eq!(rt; filter.steps(), &[D, G, ANY]);
+    assert_eq!(rt; filter.steps(), [D, G, ANY].as_slice());
     for (k, step) in [
         (0, None),
         (1, Some(D)),

@@ -41,10 +41,11 @@ fn refusals(rt: HostRuntime) -> Result<(), Fail> {
         );
         assert_eq!(rt;
             filter.steps(),
-            &[Step {
+            [Step {
                 axis: Axis::Descendant,
                 test: Test::Code(2),
             }]
+            .as_slice()
         );
     }
     read_filter(b"/D/D/D/D/D/D/D//D", &vocabulary, &mut filter)?;
@@ -66,7 +67,7 @@ fn longest(rt: HostRuntime) -> Result<(), Fail> {
     assert_eq!(rt; filter.len(), 8);
     let mut buffer = [0; 272];
     assert_eq!(rt; write_filter(&filter, &vocabulary, &mut buffer), Ok(272));
-    assert_eq!(rt; text.as_slice(), &buffer);
+    assert_eq!(rt; text.as_slice(), buffer.as_slice());
     text.push(b'/')?;
     assert_eq!(rt;
         read_filter(text.as_slice(), &vocabulary, &mut filter),
@@ -101,7 +102,7 @@ fn written(rt: HostRuntime) -> Result<(), Fail> {
             write_filter(&filter, &vocabulary, &mut buffer[0..len]),
             answer
         );
-        assert_eq!(rt; &buffer, expected);
+        assert_eq!(rt; buffer.as_slice(), expected);
     }
     Ok(())
 }

@@ -1,15 +1,14 @@
 -- Reading a vocabulary is right about what the text spells. Assumes nothing.
-use Rattle.std.proofs.Common.{◌≡◌, ℕ, zero, suc, ◌+◌, ◌-◌, ◌<◌, ◌≤◌, Bool, true, false, cond, not, ◌&&◌, eqb, ltb, leb, ◌⊎◌, List, [], ◌∷◌, ◌++◌, length, get_or, take, drop, is_some, Some, None, Ok, Err, Option, Result, sym, refl, ap, ◌∙◌, subst, ⊎_elim, append_assoc, one-add, arith}
+use Rattle.std.proofs.Common.{◌≡◌, ℕ, suc, ◌+◌, ◌-◌, ◌<◌, ◌≤◌, Bool, true, false, cond, eqb, ltb, leb, List, [], ◌∷◌, ◌++◌, length, get_or, take, drop, is_some, Some, None, Ok, Err, Option, Result, sym, refl, ap, ◌∙◌, subst, ⊎_elim, append_assoc, one-add, arith}
 use Rattle.std.proofs.lemmas.List.{append-nil, get_or_append_left, get_or_at, get_or_push, flat_map_more, length-append, length_push, nil_from_length, take-append-drop, length-take-le, drop-drop, drop_more, take_all}
-use Rattle.std.proofs.lemmas.Bool.{and_parts, and_from, cases_Bool, cases_eq, cond-true, cond-false, eq-eqb, eqb-true, le-leb, leb-true, lt-leb, and_left, and_right, ltb-true, lt-ltb, both_ways, false≢true, ne_eqb, not-true, not-false}
+use Rattle.std.proofs.lemmas.Bool.{and_parts, and_from, cases_Bool, cases_eq, cond-true, cond-false, eqb-true, le-leb, leb-true, lt-leb, and_left, and_right, ltb-true, lt-ltb, both_ways, false≢true, ne_eqb, not-true, not-false}
 use Rattle.std.specs.List.{flat_map, prefix_len, AllByRecursion as All}
 use Rattle.vocabulary.specs.declared.faults.Fault.{Fault}
-use Rattle.vocabulary.specs.declared.faults.Question.{Question}
 use Rattle.vocabulary.specs.declared.faults.Question.TheVariants.{LineNotEnded, LineNotName, NameTwice, TooManyNames, VocabularySize}
 use Rattle.vocabulary.specs.Faults.{fault}
 use Rattle.vocabulary.specs.Limits.{most_names, most_name_bytes}
 use Rattle.vocabulary.specs.Names.{between, is_name_start, is_name_byte, name_size, is_short_name, code_of}
-use Rattle.vocabulary.specs.Vocabularies.{most_bytes, feed, line, EachName, NoTwo, Spells, chain, admitted, read_lines, read_names, Accepts, LineRead, is_in_line}
+use Rattle.vocabulary.specs.Vocabularies.{most_bytes, feed, line, EachName, NoTwo, Spells, chain, admitted, read_lines, read_names, Accepts, is_in_line}
 use Rattle.vocabulary.specs.Tables.{cut}
 use Rattle.vocabulary.proofs.Codes.{code_none, code_absent}
 

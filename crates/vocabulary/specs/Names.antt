@@ -1,5 +1,5 @@
 -- Names, and the names of a vocabulary with their codes. A name is a list of bytes. Assumes nothing.
-use Rattle.std.specs.Prelude.{◌≡◌, ℕ, zero, suc, ◌+◌, Bool, true, false, cond, ◌&&◌, ◌||◌, List, [], ◌∷◌, length, Some, None, Option, MatchOption, ◌==◌, ◌≢◌, nat_le, slice_index_or}
+use Rattle.std.specs.Prelude.{◌≡◌, ℕ, zero, suc, ◌+◌, Bool, cond, ◌&&◌, ◌||◌, List, [], ◌∷◌, length, Some, None, Option, MatchOption, ◌==◌, ◌≢◌, nat_le, slice_index_or}
 use Rattle.std.specs.List.{prefix_len, slice_get}
 use Rattle.std.specs.Str.{bytes_eq}
 use Rattle.vocabulary.specs.Limits.{most_name_bytes}

@@ -119,6 +119,7 @@ start_named (b ∷ s) k c h e = by_start (is_name_start b) refl
         let come : Comes end_kind (scan_by (on end_first) (λ t. scan_from t s)) = comes_by ending end_kind s (on end_first) refl (λ t g. end_comes t s g) in
         no_end k h (subst (Comes end_kind) (ap (λ m. scan_by m (λ t. scan_from t s)) (sym is) ∙ e) come)
     by_slash false q r = no_quiet k h (subst (Comes quiet_kind) e (quiet_comes (b ∷ s) r q))
+
     by_start : (p : Bool) → is_name_start b ≡ p → 0 < cond p (1 + prefix_len is_name_byte s) 0
     by_start true q = omega arith
     by_start false q = absurd (by_slash (eqb b 47) q refl)

@@ -1,5 +1,5 @@
 -- A letter by its bits. Assumes nothing.
-use Rattle.std.proofs.Common.{◌≡◌, ◌&&◌, leb, sym, ap, ◌∙◌, arith}
+use Rattle.std.proofs.Common.{◌&&◌, leb, sym, ap, ◌∙◌, arith}
 use lib.Bits.{bit_or}
 use Rattle.std.proofs.lemmas.Bool.{le-leb, lt-leb}
 use Rattle.vocabulary.proofs.Letters.{by_bits}

@@ -1,4 +1,4 @@
-use Rattle.std.proofs.Common.{◌+◌, ◌*◌, ◌%◌, ◌<◌, ◌≤◌, length, get_or, ap, ◌∙◌, mod-lt, mul-le-mul, arith}
+use Rattle.std.proofs.Common.{◌+◌, ◌%◌, ◌≤◌, get_or, ap, ◌∙◌, mod-lt, mul-le-mul, arith}
 use Rattle.vocabulary.proofs.Buckets.{weighed_more, weighed_all}
 use Rattle.vocabulary.proofs.tables.bucket_of.Goals as goal
 

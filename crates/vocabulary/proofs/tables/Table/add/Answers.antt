@@ -1,4 +1,4 @@
-use Rattle.std.proofs.Common.{◌≡◌, ◌≤◌, length, sym, refl, ap, ◌∙◌, subst, arith}
+use Rattle.std.proofs.Common.{length, refl, ap, ◌∙◌, arith}
 use Rattle.vocabulary.specs.Tables.{bucket_of}
 use Rattle.vocabulary.proofs.Lines.{length_cut, names_grown, rows_grown, chains_grown}
 use Rattle.vocabulary.proofs.tables.Table.add.Goals as goal

@@ -1,6 +1,6 @@
-use Rattle.std.proofs.Common.{◌≡◌, ℕ, ◌-◌, ◌<◌, List, [], length, get_or, sym, ap, ◌∙◌, arith}
+use Rattle.std.proofs.Common.{◌-◌, ◌<◌, get_or, ap, ◌∙◌, arith}
 use Rattle.std.specs.Str.{bytes_eq}
-use Rattle.vocabulary.specs.Tables.{bucket_of, latest, names_in, no_line}
+use Rattle.vocabulary.specs.Tables.{latest, names_in, no_line}
 use Rattle.vocabulary.proofs.Buckets.{Looking, looking_first, looking_found, looking_next, looking_none}
 use Rattle.vocabulary.proofs.Lines.{length_names}
 use Rattle.vocabulary.proofs.tables.Table.code_of.Goals as goal
