@@ -1,9 +1,9 @@
 -- Columns of bits, and how far a table looks. Assumes nothing.
-use Rattle.std.proofs.Common.{◌≡◌, ℕ, zero, suc, ◌+◌, ◌-◌, ◌*◌, ◌/◌, ◌%◌, ◌^◌, ◌<◌, ◌≤◌, Bool, true, false, cond, not, ◌&&◌, ◌||◌, eqb, ◌⊎◌, List, [], ◌∷◌, ◌++◌, length, get_or, set, sym, refl, ap, ◌∙◌, subst, ⊎_elim, add-zero, mod-eq_of_lt, add_comm, one-mul, arith}
+use Rattle.std.proofs.Common.{◌≡◌, ℕ, zero, suc, ◌+◌, ◌*◌, ◌/◌, ◌%◌, ◌^◌, ◌<◌, ◌≤◌, Bool, true, false, cond, not, ◌&&◌, ◌||◌, eqb, List, get_or, sym, refl, ap, ◌∙◌, add-zero, mod-eq_of_lt, add_comm, one-mul, arith}
 use native.Mathlib.Nat.{pow-succ', div-eq_of_lt}
-use lib.Bits.{bit_and, bit_or, or_shifted_r}
-use Rattle.std.proofs.lemmas.Nat.{pow_pos, one_shl, shr_high, mod_low, and_mask}
-use Rattle.std.proofs.lemmas.Bool.{eqb-true, eq-eqb, ne_eqb}
+use lib.Bits.{bit_or, or_shifted_r}
+use Rattle.std.proofs.lemmas.Nat.{pow_pos, one_shl, shr_high, mod_low}
+use Rattle.std.proofs.lemmas.Bool.{ne_eqb}
 use Rattle.filter.specs.declared.steps.Axis.{Axis}
 use Rattle.filter.specs.declared.steps.Axis.TheVariants.{Child, Descendant}
 use Rattle.filter.specs.declared.steps.Step.{Step}

@@ -1,5 +1,5 @@
 -- A walk over one more element, and one less. Assumes nothing.
-use Rattle.std.proofs.Common.{◌≡◌, ℕ, zero, suc, ◌+◌, ◌-◌, ◌%◌, ◌^◌, ◌<◌, ◌≤◌, Bool, true, false, ◌&&◌, List, [], ◌∷◌, ◌++◌, length, get_or, take, set, sym, refl, ap, ◌∙◌, subst, add-one, arith, length-take-le, take_all, get_or-set_other, get_or-take, take-take, take-suc-set}
+use Rattle.std.proofs.Common.{◌≡◌, ℕ, suc, ◌-◌, ◌%◌, ◌^◌, ◌<◌, ◌≤◌, false, ◌&&◌, List, [], ◌∷◌, ◌++◌, length, get_or, take, set, sym, ap, ◌∙◌, add-one, arith, length-take-le, take_all, get_or-set_other, get_or-take, take-take, take-suc-set}
 use Rattle.std.proofs.lemmas.List.{length_push}
 use lib.Seq.{take-append_seam, get_or-append_seam}
 use Rattle.filter.specs.declared.steps.Step.{Step}

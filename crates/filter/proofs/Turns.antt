@@ -1,10 +1,10 @@
 -- The turns of the loop over a filter's steps. Assumes nothing.
-use Rattle.std.proofs.Common.{◌≡◌, ℕ, zero, suc, ◌+◌, ◌-◌, ◌*◌, ◌%◌, ◌^◌, ◌<◌, ◌≤◌, Bool, true, false, cond, not, ◌&&◌, ◌||◌, eqb, ◌⊎◌, List, [], ◌∷◌, ◌++◌, length, get_or, set, sym, refl, ap, ◌∙◌, subst, ⊎_elim, add-one, arith, length-set, get_or-set_other, get_or-set_same}
+use Rattle.std.proofs.Common.{◌≡◌, ℕ, suc, ◌+◌, ◌-◌, ◌*◌, ◌%◌, ◌^◌, ◌<◌, ◌≤◌, Bool, cond, not, ◌&&◌, eqb, List, length, get_or, set, sym, refl, ap, ◌∙◌, subst, ⊎_elim, add-one, arith, length-set, get_or-set_other, get_or-set_same}
 use lib.Bits.{bit_and}
 use Rattle.std.proofs.lemmas.Nat.{and_mask, one_shl}
 use Rattle.std.proofs.lemmas.Bool.{cases_eq}
 use Rattle.filter.specs.declared.steps.Step.{Step}
-use Rattle.filter.specs.Embedding.{fits, any_to, pick, linked, blank, reaches}
+use Rattle.filter.specs.Embedding.{fits, any_to, pick, blank, reaches}
 use Rattle.filter.specs.Masks.{column, newest}
 use Rattle.filter.proofs.Bits.{newest_col, any_col}
 

@@ -1,6 +1,6 @@
 -- When the steps of a filter embed at the last element of a path. A path is the codes of the open elements, the root
 -- first; the root has depth 1. `Embeds` is the rule, `embeds` a test of it. Assumes nothing.
-use Rattle.std.specs.Prelude.{◌≡◌, ℕ, zero, suc, ◌+◌, ◌<◌, ◌≤◌, Bool, true, false, cond, ◌&&◌, ◌||◌, List, [], ◌∷◌, ◌++◌, length, take, Decides, ◌==◌, slice_index, slice_index_or}
+use Rattle.std.specs.Prelude.{◌≡◌, ℕ, zero, suc, ◌+◌, ◌<◌, ◌≤◌, Bool, true, false, ◌&&◌, ◌||◌, List, [], ◌∷◌, ◌++◌, length, take, Decides, ◌==◌, slice_index, slice_index_or}
 use Rattle.filter.specs.declared.steps.Axis.{Axis}
 use Rattle.filter.specs.declared.steps.Axis.TheVariants.{Child, Descendant}
 use Rattle.filter.specs.declared.steps.Test.{Test}

@@ -1,6 +1,6 @@
 -- Which steps a filter may have. A code is a number from 0 to 512; 0 stands for every name outside the vocabulary,
 -- so no step asks for it. Assumes nothing.
-use Rattle.std.specs.Prelude.{ℕ, zero, suc, Bool, true, false, ◌&&◌, List, [], ◌∷◌, length, Some, None, Option, nat_le}
+use Rattle.std.specs.Prelude.{ℕ, zero, suc, Bool, true, ◌&&◌, List, [], ◌∷◌, length, None, Option, nat_le}
 use Rattle.std.specs.List.{slice_get}
 use Rattle.vocabulary.specs.Limits.{most_names, most_steps}
 use Rattle.filter.specs.declared.steps.Axis.TheVariants.{Child}

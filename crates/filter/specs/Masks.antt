@@ -1,5 +1,5 @@
 -- The masks of a walk. Assumes nothing.
-use Rattle.std.specs.Prelude.{◌≡◌, ℕ, zero, suc, ◌+◌, ◌/◌, ◌^◌, ◌<◌, Bool, true, false, cond, List, ◌==◌, slice_index}
+use Rattle.std.specs.Prelude.{◌≡◌, ℕ, zero, suc, ◌+◌, ◌/◌, ◌^◌, ◌<◌, Bool, false, cond, List, ◌==◌, slice_index}
 use Rattle.filter.specs.Embedding.{reaches}
 use Rattle.filter.specs.declared.filters.Filter.{Filter}
 

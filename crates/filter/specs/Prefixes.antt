@@ -1,6 +1,6 @@
 -- The prefixes of a filter: its first step, its first two, and so on to the whole. Two prefixes are the same if all
 -- axes and tests agree. Assumes nothing.
-use Rattle.std.specs.Prelude.{ℕ, suc, Bool, true, false, cond, ◌&&◌, ◌||◌, List, [], ◌∷◌, ◌++◌, map, ◌==◌}
+use Rattle.std.specs.Prelude.{ℕ, suc, Bool, true, false, cond, ◌&&◌, ◌||◌, List, [], ◌∷◌, map, ◌==◌}
 use Rattle.std.specs.List.{flat_map}
 use Rattle.filter.specs.declared.steps.Axis.{Axis}
 use Rattle.filter.specs.declared.steps.Axis.TheVariants.{Child, Descendant}

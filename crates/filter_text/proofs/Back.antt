@@ -1,9 +1,8 @@
 -- The text of steps is read back. Assumes nothing.
-use Rattle.std.proofs.Common.{◌≡◌, ℕ, zero, suc, ◌+◌, ◌-◌, ◌<◌, ◌≤◌, Bool, true, false, cond, List, [], ◌∷◌, ◌++◌, length, take, drop, is_some, Some, None, Ok, Err, Option, Result, unwrap_or, sym, refl, ap, ◌∙◌, subst, ⊎_elim, append_assoc, append-nil, arith}
+use Rattle.std.proofs.Common.{◌≡◌, ℕ, zero, suc, ◌+◌, ◌<◌, ◌≤◌, Bool, true, false, cond, List, [], ◌∷◌, ◌++◌, length, drop, is_some, Some, Ok, Err, unwrap_or, sym, refl, ap, ◌∙◌, subst, ⊎_elim, append_assoc, append-nil, arith}
 use Rattle.std.proofs.lemmas.List.{take_at, drop_at}
 use Rattle.std.proofs.lemmas.Bool.{cond-true, cond-false, ne_eqb, le-ltb, cases_Bool, both_ways, and_from, and_parts, and_left, and_right, le-leb, lt-leb, leb-true}
-use Rattle.std.specs.List.{prefix_len, AllByRecursion as All}
-use Rattle.vocabulary.specs.declared.faults.Fault.{Fault}
+use Rattle.std.specs.List.{prefix_len}
 use Rattle.vocabulary.specs.declared.faults.Question.TheVariants.{FilterSize}
 use Rattle.vocabulary.specs.Faults.{fault}
 use Rattle.vocabulary.specs.Limits.{most_names, most_name_bytes, most_steps}
@@ -18,7 +17,7 @@ use Rattle.filter.specs.Filters.{is_filter}
 use Rattle.filter_text.specs.Texts.{slash, star, slashes, test_text, step_text, text_of, IsText}
 use Rattle.filter_text.specs.Reads.{most_text, axis_of, coded, named, test_of, with_axis, stepped, step_of, read_from, read_steps, Reading}
 use Rattle.filter_text.proofs.Words.{Known, known_none, none_known, some_is, IsWord, name_word, name_code, known_tests, text_size}
-use Rattle.filter_text.proofs.Forth.{Forth, forth}
+use Rattle.filter_text.proofs.Forth.{forth}
 use Rattle.filter_text.proofs.Turns.{turn}
 
 abbrev Names : Type 0

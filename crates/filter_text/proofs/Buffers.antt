@@ -1,5 +1,5 @@
 -- Bytes copied into a buffer, one after another. Assumes nothing.
-use Rattle.std.proofs.Common.{◌≡◌, ℕ, ◌+◌, ◌-◌, ◌<◌, ◌≤◌, List, [], ◌∷◌, ◌++◌, length, get_or, take, set, replicate, sym, refl, ap, ◌∙◌, append_assoc, arith}
+use Rattle.std.proofs.Common.{◌≡◌, ℕ, ◌+◌, ◌-◌, ◌<◌, ◌≤◌, List, [], ◌∷◌, ◌++◌, length, get_or, take, set, replicate, sym, ap, ◌∙◌, append_assoc, arith}
 use Rattle.std.proofs.lemmas.List.{take_more, take_more_set, replicate_more}
 
 pub put_more : (text old buffer : List ℕ) (place i : ℕ) → i < length text → place + i < length buffer → take (place + i) buffer ≡ take place old ++ take i text → take (place + (i + 1)) (set buffer (place + i) (get_or text i 0)) ≡ take place old ++ take (i + 1) text

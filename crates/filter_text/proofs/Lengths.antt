@@ -1,17 +1,15 @@
 -- The text of a filter's steps, one step at a time. Assumes nothing.
-use Rattle.std.proofs.Common.{◌≡◌, ℕ, ◌+◌, ◌*◌, ◌<◌, ◌≤◌, true, cond, List, [], ◌∷◌, ◌++◌, length, get_or, take, drop, is_some, Some, None, Ok, Err, Option, Result, unwrap_or, sym, refl, ap, ◌∙◌, subst, append_assoc, arith, length-append}
+use Rattle.std.proofs.Common.{◌≡◌, ℕ, ◌+◌, ◌*◌, ◌<◌, ◌≤◌, true, List, [], ◌∷◌, ◌++◌, length, get_or, take, drop, is_some, Some, None, Ok, Err, Option, unwrap_or, sym, refl, ap, ◌∙◌, append_assoc, arith, length-append}
 use Rattle.std.proofs.ByRecursion.{All-get_or}
 use Rattle.std.proofs.lemmas.List.{at_drop_more, at_drop_all, flat_map_more, take_more, take_all, take-append-drop}
 use Rattle.std.proofs.lemmas.Bool.{cond-true, cond-false}
-use Rattle.std.specs.List.{flat_map}
-use Rattle.vocabulary.specs.declared.faults.Fault.{Fault}
 use Rattle.vocabulary.specs.declared.faults.Question.TheVariants.{CodeUnknown}
 use Rattle.vocabulary.specs.Faults.{fault}
 use Rattle.filter.specs.Embedding.{blank}
 use Rattle.filter.specs.declared.steps.Step.{Step}
 use Rattle.filter_text.specs.Texts.{slashes, test_text, step_text, text_of, unknown_from}
 use Rattle.filter_text.specs.Writes.{unless_unknown, text_length}
-use Rattle.filter_text.proofs.Words.{Known, none_known, slashes_size}
+use Rattle.filter_text.proofs.Words.{none_known, slashes_size}
 
 module _ (names : List (List ℕ)) (steps : List Step) where
   -- the steps before i have a text of len bytes

@@ -1,9 +1,9 @@
 -- Reading filter text, step by step, with places. Assumes nothing.
-use Rattle.std.specs.Prelude.{◌≡◌, ℕ, zero, suc, ◌+◌, ◌-◌, ◌≤◌, Bool, true, false, cond, List, [], ◌∷◌, ◌++◌, length, take, drop, Some, None, Ok, Err, Option, Result, ◌==◌, nat_lt}
+use Rattle.std.specs.Prelude.{◌≡◌, ℕ, zero, suc, ◌+◌, ◌-◌, ◌≤◌, cond, List, [], ◌∷◌, ◌++◌, length, take, drop, Some, None, Ok, Err, Option, Result, ◌==◌, nat_lt}
 use Rattle.vocabulary.specs.declared.faults.Fault.{Fault}
 use Rattle.vocabulary.specs.declared.faults.Question.TheVariants.{FilterSize, TooManySteps, StepNoSlash, StepNoTest, StepNameLong, StepNameUnknown}
 use Rattle.vocabulary.specs.Faults.{fault}
-use Rattle.vocabulary.specs.Limits.{most_names, most_name_bytes, most_steps}
+use Rattle.vocabulary.specs.Limits.{most_name_bytes, most_steps}
 use Rattle.vocabulary.specs.Names.{between, name_size, code_of}
 use Rattle.vocabulary.specs.Vocabularies.{chain, EachName, NoTwo}
 use Rattle.filter.specs.declared.steps.Axis.{Axis}

@@ -1,8 +1,7 @@
 -- What reading a vocabulary and a filter tells of the question. Assumes nothing.
-use Rattle.std.proofs.Common.{◌≡◌, ℕ, Bool, cond, eqb, List, Ok, Err, Result, sym, ap, ◌∙◌, arith}
+use Rattle.std.proofs.Common.{◌≡◌, ℕ, List, Ok, Err, Result, sym, ap, ◌∙◌, arith}
 use Rattle.vocabulary.specs.declared.faults.Fault.{Fault}
 use Rattle.vocabulary.specs.Readings.{verdict, names_after}
-use Rattle.vocabulary.specs.Vocabularies.{chain}
 use Rattle.filter.specs.declared.steps.Step.{Step}
 use Rattle.filter_text.specs.Reads as filter
 use Rattle.message.specs.declared.events.Event.{Event}

@@ -1,6 +1,5 @@
 -- The table over classes is the machine over bytes. Assumes nothing.
 use Rattle.std.proofs.Common.{◌≡◌, ℕ, Bool, true, false, cond, refl}
-use Rattle.markup.specs.Tags.{Move, after}
 use Rattle.markup.specs.declared.tags.Class.{Class}
 use Rattle.markup.specs.declared.tags.Mode.{Mode}
 use Rattle.markup.specs.declared.tags.Mode.TheVariants as M

@@ -1,11 +1,11 @@
 -- The name at the front of a tag, and how the tag goes on behind it. Assumes nothing.
-use Rattle.std.proofs.Common.{◌≡◌, ℕ, zero, suc, ◌+◌, ◌<◌, ◌≤◌, Bool, true, false, cond, ◌||◌, eqb, List, [], ◌∷◌, length, take, drop, sym, refl, ap, ◌∙◌, arith}
+use Rattle.std.proofs.Common.{◌≡◌, ℕ, zero, suc, ◌+◌, ◌<◌, ◌≤◌, Bool, true, false, cond, eqb, List, [], ◌∷◌, take, drop, sym, refl, ap, ◌∙◌, arith}
 use Rattle.std.specs.List.{prefix_len}
-use Rattle.std.proofs.lemmas.Bool.{cond-true, cond-false, or_right}
+use Rattle.std.proofs.lemmas.Bool.{cond-true, or_right}
 use Rattle.vocabulary.specs.Names.{between, is_name_start, is_name_byte, name_size}
-use Rattle.markup.specs.Bytes.{name_start, name_byte, white, front}
+use Rattle.markup.specs.Bytes.{name_start, name_byte, front}
 use Rattle.markup.specs.Grammar.{Kind}
-use Rattle.markup.specs.Tags.{at_open, in_name, end_first, end_name, Move, on, misfit, Scan, cut_short, ends, misfits, later, scan_by, scan_from}
+use Rattle.markup.specs.Tags.{at_open, in_name, end_first, end_name, on, misfit, ends, scan_by, scan_from}
 use Rattle.markup.specs.Runs.{shifted}
 use Rattle.markup.proofs.Scanning.{later_shifted, in_name_lem, in_end_name}
 

@@ -1,11 +1,11 @@
 -- How markup goes on behind some of its bytes: behind a name, and to the first `-->` or `?>`. Assumes nothing.
-use Rattle.std.proofs.Common.{◌≡◌, ℕ, zero, suc, ◌+◌, ◌<◌, ◌≤◌, Bool, true, false, cond, eqb, ◌⊎◌, List, [], ◌∷◌, ◌++◌, length, get_or, take, drop, Some, None, Option, sym, refl, ap, ◌∙◌, inl, inr, arith}
+use Rattle.std.proofs.Common.{◌≡◌, ℕ, suc, ◌+◌, ◌<◌, Bool, true, false, cond, eqb, ◌⊎◌, List, [], ◌∷◌, length, get_or, drop, sym, refl, ap, ◌∙◌, inl, inr, arith}
 use Rattle.std.specs.List.{prefix_len}
-use Rattle.std.proofs.lemmas.Bool.{cases_eq, cases_Bool, cond-true, cond-false, eq-eqb, ne_eqb}
-use Rattle.vocabulary.specs.Names.{is_name_start, is_name_byte, name_size}
-use Rattle.markup.specs.Bytes.{name_start, name_byte, white, front, begins, comment_end, instruction_end}
-use Rattle.markup.specs.Grammar.{Kind, opening, closing, comment, instruction}
-use Rattle.markup.specs.Tags.{State, at_open, in_name, end_first, end_name, in_remark, one_dash, two_dashes, in_order, asking, Move, on, ended, misplaced, misfit, after, Scan, cut_short, ends, begins_none, misfits, later, scan_by, scan_from}
+use Rattle.std.proofs.lemmas.Bool.{cases_eq, cond-true, cond-false, eq-eqb, ne_eqb}
+use Rattle.vocabulary.specs.Names.{is_name_byte}
+use Rattle.markup.specs.Bytes.{name_byte, white, comment_end, instruction_end}
+use Rattle.markup.specs.Grammar.{opening, closing, comment, instruction}
+use Rattle.markup.specs.Tags.{State, in_name, end_name, in_remark, one_dash, two_dashes, in_order, asking, Move, on, Scan, cut_short, ends, begins_none, misfits, later, scan_by, scan_from}
 use Rattle.markup.specs.Runs.{run_of, shifted, first_from, found_by}
 
 pub shifted_later : (n : ℕ) (x : Scan) → shifted n (later x) ≡ shifted (n + 1) x

@@ -1,14 +1,12 @@
 -- What the bytes behind a `<` tell, by how the markup goes on, and what text tells. Assumes nothing.
-use Rattle.std.proofs.Common.{◌≡◌, ℕ, zero, suc, ◌+◌, ◌<◌, ◌≤◌, Bool, true, false, cond, not, eqb, List, [], ◌∷◌, ◌++◌, length, take, drop, sym, refl, ap, ◌∙◌, append_assoc, arith}
+use Rattle.std.proofs.Common.{◌≡◌, ℕ, suc, ◌+◌, Bool, true, false, not, eqb, List, [], ◌∷◌, ◌++◌, take, drop, sym, refl, ap, ◌∙◌, append_assoc, arith}
 use Rattle.std.specs.List.{prefix_len}
 use Rattle.vocabulary.specs.declared.faults.Fault.{Fault}
-use Rattle.vocabulary.specs.declared.faults.Question.TheVariants.{NoMarkup, MarkupNotEnded, ByteMisfit}
+use Rattle.vocabulary.specs.declared.faults.Question.TheVariants.{ByteMisfit}
 use Rattle.vocabulary.specs.Faults.{fault}
-use Rattle.message.specs.declared.events.Event.{Event}
-use Rattle.message.specs.Sources.{Ending, faulted}
-use Rattle.markup.specs.Grammar.{Kind}
+use Rattle.message.specs.Sources.{faulted}
 use Rattle.markup.specs.Tags.{State, Move, on, ended, misplaced, misfit, after, name_in, Scan, cut_short, ends, begins_none, misfits, later, scan_by, scan_from}
-use Rattle.markup.specs.Readings.{Stand, Status, between, behind, stopped, Step, is_empty, acted, moved, texted, silent, step, events_from, ending_from}
+use Rattle.markup.specs.Readings.{Stand, between, behind, stopped, Step, is_empty, acted, moved, silent, step, events_from, ending_from}
 use Rattle.markup.specs.Runs.{is_text}
 use Rattle.std.proofs.lemmas.Bool.{cond-true, cond-false}
 use Rattle.markup.specs.Tellings.{events_by, ending_by}

@@ -1,6 +1,6 @@
 -- Documents: one root element, and around it white space, comments and instructions. The bytes that a document stands
 -- for, its events, and how deep its elements are nested. Assumes nothing.
-use Rattle.std.specs.Prelude.{◌≡◌, ℕ, suc, ◌+◌, max, Bool, true, false, List, [], ◌∷◌, ◌++◌, length, ◌==◌}
+use Rattle.std.specs.Prelude.{◌≡◌, ℕ, suc, ◌+◌, max, true, false, List, [], ◌∷◌, ◌++◌, length, ◌==◌}
 use Rattle.std.specs.Option.{unwrap_or}
 use Rattle.vocabulary.specs.Names.{code_of}
 use Rattle.message.specs.declared.events.Event.{Event}

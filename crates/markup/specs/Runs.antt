@@ -1,8 +1,8 @@
 -- How the code's machine stands, what a run of it answers, and where fixed bytes are first found. Assumes nothing.
-use Rattle.std.specs.Prelude.{◌≡◌, ℕ, ◌+◌, Bool, cond, not, List, [], ◌∷◌, Some, None, Option, ◌==◌}
+use Rattle.std.specs.Prelude.{ℕ, ◌+◌, Bool, cond, not, List, [], ◌∷◌, Some, None, Option, ◌==◌}
 use Rattle.markup.specs.Bytes.{open_angle, begins}
-use Rattle.markup.specs.Grammar.{Kind, opening, empty, closing, comment, instruction}
-use Rattle.markup.specs.Tags.{State, in_name, in_gap, in_word, in_wait, at_value, in_value, at_ended, at_slash, end_first, end_name, end_gap, Move, on, ended, misplaced, misfit, after, Scan, cut_short, ends, begins_none, misfits, scan_by, scan_from}
+use Rattle.markup.specs.Grammar.{Kind, opening, empty, closing}
+use Rattle.markup.specs.Tags.{in_name, in_gap, in_word, in_wait, at_value, in_value, at_ended, at_slash, end_first, end_name, end_gap, Move, on, ended, misplaced, misfit, after, Scan, cut_short, ends, begins_none, misfits, scan_by, scan_from}
 use Rattle.markup.specs.declared.tags.Mode.{Mode}
 use Rattle.markup.specs.declared.tags.Mode.TheVariants as M
 use Rattle.markup.specs.declared.tags.Scanned.{Scanned}

@@ -1,5 +1,5 @@
 -- The machine that reads what stands behind a `<`, byte by byte, to its end. Assumes nothing.
-use Rattle.std.specs.Prelude.{ℕ, suc, Bool, cond, List, [], ◌∷◌, drop, ◌==◌}
+use Rattle.std.specs.Prelude.{ℕ, suc, cond, List, [], ◌∷◌, drop, ◌==◌}
 use Rattle.markup.specs.Bytes.{open_angle, close_angle, slash, equals, bang, dash, ask, apostrophe, quotation, name_start, name_byte, white, front}
 use Rattle.markup.specs.Grammar.{Kind, opening, empty, closing, comment, instruction}
 

@@ -1,11 +1,11 @@
 -- What the bytes behind a `<` at the place p tell, by how the markup goes on. Assumes nothing.
-use Rattle.std.specs.Prelude.{◌≡◌, ℕ, ◌+◌, List, [], ◌∷◌, ◌++◌, take, drop}
+use Rattle.std.specs.Prelude.{ℕ, ◌+◌, List, [], ◌++◌, take, drop}
 use Rattle.vocabulary.specs.declared.faults.Question.TheVariants.{NoMarkup, MarkupNotEnded, ByteMisfit}
 use Rattle.vocabulary.specs.Faults.{fault}
 use Rattle.message.specs.declared.events.Event.{Event}
 use Rattle.message.specs.Sources.{Ending, faulted}
 use Rattle.markup.specs.Tags.{name_in, Scan, cut_short, ends, begins_none, misfits}
-use Rattle.markup.specs.Readings.{Stand, Step, acted, events_from, ending_from}
+use Rattle.markup.specs.Readings.{Stand, acted, events_from, ending_from}
 
 -- the events, where acc are the bytes behind the `<` up to the place n, and bs those from there on
 abbrev pub events_by : List (List ℕ) → Stand → ℕ → List ℕ → ℕ → List ℕ → Scan → List Event

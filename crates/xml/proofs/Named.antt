@@ -14,7 +14,7 @@ use Rattle.markup.proofs.Fronts.{begins_name, name_leads, named_start, front_nam
 use Rattle.xml.specs.declared.items.Span.{Span}
 use Rattle.xml.specs.declared.tags.Tagged.{Tagged}
 use Rattle.xml.specs.Items.{cut}
-use Rattle.xml.specs.Tags.{started_by, TagIs, ClosingFrom}
+use Rattle.xml.specs.Tags.{started_by, TagIs}
 use Rattle.xml.proofs.Tagging.{part_is, closing_from, end_is}
 
 pub name_within : (s : List ℕ) → name_size s ≤ length s

@@ -1,14 +1,14 @@
 -- What markup comes to at each of the cases that the code tells apart. Assumes nothing.
-use Rattle.std.proofs.Common.{◌≡◌, ℕ, suc, ◌+◌, ◌-◌, ◌<◌, ◌≤◌, Bool, true, false, cond, eqb, List, [], ◌∷◌, length, get_or, take, drop, Some, None, Ok, Err, Option, sym, refl, ap, ◌∙◌, subst, arith}
-use Rattle.std.proofs.lemmas.List.{take_rest, nil_from_length}
+use Rattle.std.proofs.Common.{◌≡◌, ℕ, ◌+◌, ◌-◌, ◌≤◌, Bool, true, false, List, [], ◌∷◌, length, get_or, take, drop, Some, None, Ok, Err, sym, refl, ap, ◌∙◌, subst, arith}
+use Rattle.std.proofs.lemmas.List.{take_rest}
 use Rattle.std.proofs.lemmas.Bool.{cond-true, cond-false, eq-eqb, ne_eqb}
 use Rattle.vocabulary.specs.declared.faults.Question.TheVariants.{NoMarkup, MarkupNotEnded}
 use Rattle.vocabulary.specs.Faults.{fault}
 use Rattle.markup.specs.Bytes.{name_start, comment_end, instruction_end}
-use Rattle.markup.specs.Grammar.{Kind, comment, instruction}
-use Rattle.markup.specs.Tags.{State, at_open, at_bang, at_bang_dash, in_remark, in_order, Move, on, misplaced, after, Scan, cut_short, ends, begins_none, misfits, later, scan_by, scan_from}
+use Rattle.markup.specs.Grammar.{comment, instruction}
+use Rattle.markup.specs.Tags.{at_bang, in_remark, in_order, cut_short, ends, begins_none, later, scan_by, scan_from}
 use Rattle.markup.specs.Runs.{shifted, first_from, found_by}
-use Rattle.markup.proofs.Scanning.{remark_scan, order_scan, later_shifted, shifted_later, shifted_none, shifted_twice}
+use Rattle.markup.proofs.Scanning.{remark_scan, order_scan, later_shifted, shifted_twice}
 use Rattle.markup.proofs.Bounds.{Reaches, reaches}
 use Rattle.xml.specs.declared.items.Piece.TheVariants.{Start}
 use Rattle.xml.specs.Items.{piece_by, piece_of, text_of, item_of}

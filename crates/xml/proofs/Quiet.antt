@@ -1,9 +1,9 @@
 -- What an item tells: nothing where it is quiet, and else what the markup there tells. Assumes nothing.
-use Rattle.std.proofs.Common.{◌≡◌, ℕ, suc, ◌+◌, ◌-◌, ◌<◌, ◌≤◌, Bool, true, false, cond, not, eqb, ◌⊎◌, List, [], ◌∷◌, ◌++◌, length, get_or, take, drop, Ok, Err, Result, sym, refl, ap, ◌∙◌, subst, inl, inr, ⊎_elim, arith, length-drop}
+use Rattle.std.proofs.Common.{◌≡◌, ℕ, ◌+◌, ◌-◌, ◌<◌, ◌≤◌, Bool, true, false, cond, not, eqb, List, [], ◌∷◌, ◌++◌, length, get_or, drop, Ok, Err, Result, sym, refl, ap, ◌∙◌, subst, ⊎_elim, arith, length-drop}
 use Rattle.std.specs.List.{prefix_len}
 use Rattle.std.proofs.lemmas.List.{drop-drop, drop_more, get_or-drop, get_or_past}
 use Rattle.std.proofs.lemmas.List.Sums.{prefix_len-le-length}
-use Rattle.std.proofs.lemmas.Bool.{cases_lt, cond-true, cond-false, eqb-true, eqb-false, eq-eqb, ne_eqb}
+use Rattle.std.proofs.lemmas.Bool.{cases_lt, cond-true, cond-false, eqb-true}
 use Rattle.vocabulary.specs.declared.faults.Fault.{Fault}
 use Rattle.vocabulary.specs.declared.faults.Question.TheVariants.{ByteOutsideRoot}
 use Rattle.vocabulary.specs.Faults.{fault}
@@ -11,10 +11,10 @@ use Rattle.vocabulary.specs.Names.{is_name_byte, name_size}
 use Rattle.message.specs.declared.events.Event.{Event}
 use Rattle.message.specs.Sources.{Ending, faulted}
 use Rattle.markup.specs.Bytes.{name_start, white}
-use Rattle.markup.specs.Grammar.{Kind, opening, empty, closing, comment, instruction}
-use Rattle.markup.specs.Readings.{Stand, Status, between, behind, stopped, Step, is_empty, refuse, step, texted, events_from, ending_from}
+use Rattle.markup.specs.Grammar.{opening, empty, closing, comment, instruction}
+use Rattle.markup.specs.Readings.{Stand, between, Step, is_empty, refuse, step, texted, events_from, ending_from}
 use Rattle.markup.specs.Runs.{is_text}
-use Rattle.markup.specs.Tags.{State, at_open, Move, Scan, cut_short, ends, begins_none, misfits, scan_from}
+use Rattle.markup.specs.Tags.{at_open, Scan, cut_short, ends, begins_none, misfits, scan_from}
 use Rattle.markup.specs.Tellings.{events_by, ending_by}
 use Rattle.markup.proofs.Bounds.{Reaches, reaches, Comes, quiet_kind, quiet_comes}
 use Rattle.markup.proofs.Telling.{stopped_events, stopped_ending, events_run, ending_run, text_events_lem, text_ending_lem}

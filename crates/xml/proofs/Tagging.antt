@@ -1,23 +1,19 @@
 -- The scan of a tag from its `<`, by the scan behind its name. Assumes nothing.
-use Rattle.std.proofs.Common.{◌≡◌, ℕ, suc, ◌+◌, ◌-◌, ◌<◌, ◌≤◌, Bool, true, false, List, [], ◌∷◌, length, take, drop, Some, sym, refl, ap, ◌∙◌, subst, arith, length-drop}
+use Rattle.std.proofs.Common.{◌≡◌, ℕ, suc, ◌+◌, ◌-◌, ◌<◌, ◌≤◌, Bool, true, false, List, ◌∷◌, length, take, drop, Some, sym, refl, ap, ◌∙◌, subst, arith, length-drop}
 use Rattle.std.proofs.lemmas.List.{drop-drop}
-use Rattle.std.specs.List.{prefix_len}
 use Rattle.vocabulary.specs.declared.faults.Question.TheVariants.{MarkupNotEnded, ByteMisfit}
 use Rattle.vocabulary.specs.Faults.{fault}
-use Rattle.vocabulary.specs.Names.{name_size, is_name_byte}
+use Rattle.vocabulary.specs.Names.{name_size}
 use Rattle.markup.specs.Bytes.{name_byte, front}
 use Rattle.markup.specs.Grammar.{Kind, opening, empty, closing, comment, instruction}
-use Rattle.markup.specs.Tags.{at_open, in_name, end_first, end_name, name_in, Scan, cut_short, ends, begins_none, misfits, scan_from}
+use Rattle.markup.specs.Tags.{at_open, in_name, end_first, end_name, name_in, Scan, cut_short, ends, misfits, scan_from}
 use Rattle.markup.specs.Runs.{shifted, scan_of}
 use Rattle.markup.specs.declared.tags.Scanned.{Scanned}
 use Rattle.markup.specs.declared.tags.Scanned.TheVariants as S
 use Rattle.markup.proofs.Scanning.{shifted_twice, shifted_none}
 use Rattle.markup.proofs.Fronts.{name_leads, named_start, named_end, unnamed_end, slashed, front_name, front_take}
 use Rattle.markup.proofs.Bounds.{Reaches, reaches, Comes, start_kind, end_kind, start_comes, end_comes}
-use Rattle.xml.specs.declared.items.Span.{Span}
-use Rattle.xml.specs.declared.tags.Tagged.{Tagged}
-use Rattle.xml.specs.Items.{cut}
-use Rattle.xml.specs.Tags.{fault_by, started_by, TagIs, StartTagged, EndTagged, ClosingFrom}
+use Rattle.xml.specs.Tags.{fault_by, TagIs, ClosingFrom}
 
 -- the bytes of a name that begins at the place n
 pub part_is : (m : List ℕ) (n size : ℕ) → take (n + size - n) (drop n m) ≡ take size (drop n m)

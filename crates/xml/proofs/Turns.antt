@@ -1,5 +1,5 @@
 -- A turn of the reader over a tag: the tag tells its event, or the fault that ends the message. Assumes nothing.
-use Rattle.std.proofs.Common.{◌≡◌, ℕ, zero, suc, ◌+◌, ◌-◌, ◌<◌, ◌≤◌, Bool, true, false, cond, not, eqb, ltb, leb, List, [], ◌∷◌, ◌++◌, length, get_or, take, drop, Some, None, Ok, Err, Option, Result, sym, refl, ap, ◌∙◌, subst, arith}
+use Rattle.std.proofs.Common.{◌≡◌, ℕ, zero, suc, ◌+◌, ◌-◌, ◌<◌, ◌≤◌, Bool, true, false, cond, not, eqb, ltb, leb, List, [], ◌∷◌, ◌++◌, length, drop, Some, None, Ok, Err, Option, Result, sym, refl, ap, ◌∙◌, subst, arith}
 use Rattle.std.specs.Option.{option_map}
 use Rattle.std.specs.Str.{bytes_eq}
 use Rattle.std.proofs.lemmas.List.{drop-drop}
@@ -11,17 +11,15 @@ use Rattle.vocabulary.specs.Limits.{most_open}
 use Rattle.message.specs.declared.events.Event.{Event}
 use Rattle.message.specs.declared.events.Event.TheVariants.{Start, End}
 use Rattle.message.specs.Sources.{Ending, closed, faulted, last_told, told, rest, counted}
-use Rattle.markup.specs.Bytes.{name_byte, front}
 use Rattle.markup.specs.Documents.{code_or_0}
 use Rattle.markup.specs.Grammar.{Kind, opening, empty, closing}
 use Rattle.markup.specs.Readings.{most_text, Stand, Status, between, stopped, Step, is_empty, left, started, closed_by, acted, refuse, events_from, ending_from}
-use Rattle.markup.specs.Tags.{at_open, name_in, Scan, cut_short, ends, begins_none, misfits, scan_from}
+use Rattle.markup.specs.Tags.{at_open, Scan, cut_short, ends, begins_none, misfits, scan_from}
 use Rattle.markup.specs.Tellings.{events_by, ending_by}
 use Rattle.markup.proofs.Telling.{stopped_events, stopped_ending}
 use Rattle.xml.specs.declared.items.Span.{Span}
 use Rattle.xml.specs.declared.tags.Tagged.{Tagged}
 use Rattle.xml.specs.declared.texts.TextReader.{TextReader}
-use Rattle.xml.specs.Fields.{owed_events}
 use Rattle.xml.specs.Items.{cut}
 use Rattle.xml.specs.Opened.{admitted, met, After}
 use Rattle.xml.specs.Seeks.{Onwards}

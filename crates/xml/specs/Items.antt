@@ -1,5 +1,5 @@
 -- What stands at a place of a message. Assumes nothing.
-use Rattle.std.specs.Prelude.{◌≡◌, ℕ, ◌+◌, ◌-◌, Bool, true, false, cond, List, [], ◌∷◌, length, take, drop, Ok, Err, Result, ◌==◌, slice_index}
+use Rattle.std.specs.Prelude.{ℕ, ◌+◌, ◌-◌, Bool, cond, List, take, drop, Ok, Err, Result, ◌==◌, slice_index}
 use Rattle.std.specs.List.{prefix_len}
 use Rattle.vocabulary.specs.declared.faults.Fault.{Fault}
 use Rattle.vocabulary.specs.declared.faults.Question.TheVariants.{ByteOutsideRoot, NoMarkup, MarkupNotEnded, ByteMisfit}

@@ -1,9 +1,8 @@
 -- What a tag at a place of a message is, or why there is none. Assumes nothing.
-use Rattle.std.specs.Prelude.{◌≡◌, ℕ, ◌+◌, ◌<◌, ◌≤◌, Bool, true, false, List, [], ◌∷◌, length, take, drop, Some, None, Ok, Err, Option, Result}
+use Rattle.std.specs.Prelude.{◌≡◌, ℕ, ◌+◌, ◌<◌, ◌≤◌, Bool, true, false, List, length, take, drop, Some, None, Ok, Err, Option, Result}
 use Rattle.vocabulary.specs.declared.faults.Fault.{Fault}
 use Rattle.vocabulary.specs.declared.faults.Question.TheVariants.{NoMarkup, MarkupNotEnded, ByteMisfit}
 use Rattle.vocabulary.specs.Faults.{fault}
-use Rattle.vocabulary.specs.Names.{name_size}
 use Rattle.markup.specs.Bytes.{name_byte, front}
 use Rattle.markup.specs.Grammar.{Kind, opening, empty, closing}
 use Rattle.markup.specs.Runs.{shifted}

@@ -1,5 +1,5 @@
 -- What a reader has still to tell, and a turn of it. Assumes nothing.
-use Rattle.std.specs.Prelude.{◌≡◌, ℕ, ◌+◌, ◌≤◌, Bool, false, cond, leb, List, [], ◌∷◌, ◌++◌, map, reverse, length, take, drop, Some, None, Ok, Err, Option, Result, nat_le, refl}
+use Rattle.std.specs.Prelude.{◌≡◌, ℕ, ◌+◌, ◌≤◌, Bool, false, cond, leb, List, [], ◌++◌, map, reverse, length, take, drop, Some, None, Ok, Err, Option, Result, nat_le}
 use Rattle.std.proofs.Common.{sym, ap, subst, arith, length-take}
 use Rattle.std.specs.Borrow.{Bor}
 use Rattle.std.proofs.lemmas.List.{length-map}

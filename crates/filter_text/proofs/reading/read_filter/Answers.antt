@@ -1,4 +1,4 @@
-use Rattle.std.proofs.Common.{◌≡◌, ℕ, ◌-◌, ◌≤◌, true, cond, List, length, take, is_some, Some, None, Ok, Err, Option, sym, refl, ap, ◌∙◌, subst, arith, true-eqb, false-eqb}
+use Rattle.std.proofs.Common.{◌≡◌, ℕ, ◌-◌, ◌≤◌, cond, List, length, take, is_some, Some, None, Ok, Err, Option, sym, refl, ap, ◌∙◌, arith, true-eqb, false-eqb}
 use Rattle.std.proofs.lemmas.Result.{err_from_is_err_and, IfOk-from_err}
 use Rattle.std.proofs.lemmas.Bool.{cond-true, false≢true}
 use Rattle.vocabulary.specs.declared.faults.Question.TheVariants.{FilterSize}

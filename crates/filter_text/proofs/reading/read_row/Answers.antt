@@ -1,9 +1,9 @@
-use Rattle.std.proofs.Common.{◌≡◌, ◌+◌, ◌-◌, ◌<◌, [], ◌∷◌, ◌++◌, length, take, set, Ok, Err, sym, refl, ap, ◌∙◌, subst, arith, length-set, true-eqb, false-eqb}
+use Rattle.std.proofs.Common.{◌-◌, ◌<◌, length, take, Err, sym, ap, ◌∙◌, subst, arith, length-set, true-eqb, false-eqb}
 use Rattle.std.proofs.lemmas.List.{take_more_set}
 use Rattle.std.proofs.lemmas.Result.{err_from_is_err_and}
 use Rattle.vocabulary.specs.Readings.{names_of}
-use Rattle.filter_text.specs.Reads.{RowRead, read_from}
-use Rattle.filter_text.proofs.Turns.{done, full, onward, stopped}
+use Rattle.filter_text.specs.Reads.{RowRead}
+use Rattle.filter_text.proofs.Turns.{done, onward, stopped}
 use Rattle.filter_text.proofs.reading.read_row.Goals as goal
 
 pub returns-in_err-step : goal.returns-in_err-step

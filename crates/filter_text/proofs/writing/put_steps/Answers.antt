@@ -1,8 +1,7 @@
-use Rattle.std.proofs.Common.{◌≡◌, ℕ, ◌+◌, false, [], length, get_or, take, is_some, unwrap_or, sym, ap, ◌∙◌, arith}
+use Rattle.std.proofs.Common.{◌+◌, [], length, take, is_some, unwrap_or, ap, ◌∙◌, arith}
 use Rattle.std.proofs.lemmas.Bool.{false≢true}
-use Rattle.std.specs.Option.{option_map}
 use Rattle.vocabulary.specs.Readings.{names_of}
-use Rattle.filter_text.proofs.Lengths.{Put, put_room, put_known, put_more, put_all}
+use Rattle.filter_text.proofs.Lengths.{put_room, put_known, put_more, put_all}
 use Rattle.filter_text.proofs.writing.put_steps.Goals as goal
 use Rattle.filter_text.proofs.writing.put_steps.Goals.{in-Some, in_default}
 

@@ -1,11 +1,11 @@
-use Rattle.std.proofs.Common.{◌≡◌, ℕ, ◌-◌, ◌≤◌, cond, List, ◌++◌, length, take, replicate, Ok, Err, sym, refl, ap, ◌∙◌, subst, arith}
+use Rattle.std.proofs.Common.{◌≡◌, ◌-◌, ◌++◌, length, take, replicate, Ok, Err, sym, refl, ap, ◌∙◌, arith}
 use Rattle.std.proofs.lemmas.List.{take_at, length-take-le}
 use Rattle.std.proofs.lemmas.Result.{err_from_is_err_and, IfOk-from_err}
 use Rattle.std.proofs.lemmas.Bool.{cond-true, cond-false, le-leb, lt-leb}
 use Rattle.vocabulary.specs.Readings.{names_of}
 use Rattle.filter.specs.Walks.{steps_of}
 use Rattle.filter_text.specs.Reads.{read_steps}
-use Rattle.filter_text.specs.Texts.{text_of, unknown_from}
+use Rattle.filter_text.specs.Texts.{text_of}
 use Rattle.filter_text.specs.Writes.{filled, fitting, text_length}
 use Rattle.filter_text.proofs.Back.{reading}
 use Rattle.filter_text.proofs.Lengths.{length_ok}

@@ -1,5 +1,5 @@
 -- `>` comes next, or the machine reads on. Assumes nothing.
-use Rattle.std.proofs.Common.{◌≡◌, ap, ◌∙◌, arith, ltb-false, ltb-true}
+use Rattle.std.proofs.Common.{ap, ◌∙◌, arith, ltb-false, ltb-true}
 use Rattle.markup.specs.Tags.{end_name}
 use Rattle.markup.specs.Runs.{run_of}
 use Rattle.markup.proofs.Scanning.{closes, run_on}

@@ -1,5 +1,5 @@
 -- One byte of text more, and the first that is none. Assumes nothing.
-use Rattle.std.proofs.Common.{◌≡◌, arith}
+use Rattle.std.proofs.Common.{arith}
 use Rattle.std.proofs.lemmas.List.Sums.{prefix_len-drop_yes, prefix_len-drop_no, prefix_len-drop_all}
 use Rattle.std.proofs.lemmas.Bool.{not_from_false, not_from_true, ne_eqb, eq-eqb}
 use Rattle.markup.specs.Runs.{is_text}

@@ -1,5 +1,5 @@
 -- The end is found, or the text ends before. Assumes nothing.
-use Rattle.std.proofs.Common.{◌≡◌, ℕ, ◌+◌, ◌≤◌, length, Ok, Err, sym, ap, ◌∙◌, arith}
+use Rattle.std.proofs.Common.{◌≡◌, ◌+◌, Ok, Err, sym, ap, ◌∙◌, arith}
 use Rattle.markup.specs.Runs.{shifted}
 use Rattle.xml.specs.declared.items.Piece.TheVariants.{Quiet}
 use Rattle.xml.specs.Items.{piece_by}

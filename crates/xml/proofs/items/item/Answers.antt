@@ -1,5 +1,5 @@
 -- Markup, or text. Assumes nothing.
-use Rattle.std.proofs.Common.{◌≡◌, get_or, sym, ap, ◌∙◌, arith, ltb-false, ltb-true}
+use Rattle.std.proofs.Common.{◌≡◌, get_or, ap, ◌∙◌, arith, ltb-false, ltb-true}
 use Rattle.xml.specs.Items.{item_of}
 use Rattle.xml.proofs.Pieces.{at_angle, at_text}
 use Rattle.xml.proofs.items.item.Goals as goal

@@ -1,5 +1,5 @@
 -- What stands behind a `<`. Assumes nothing.
-use Rattle.std.proofs.Common.{◌≡◌, Err, sym, ap, ◌∙◌, arith, ltb-false, ltb-true}
+use Rattle.std.proofs.Common.{Err, sym, ap, ◌∙◌, arith, ltb-false, ltb-true}
 use Rattle.markup.specs.Bytes.{name_start}
 use Rattle.xml.proofs.Pieces.{at_bang_lem, at_ask, at_start, at_none, at_other}
 use Rattle.xml.proofs.items.markup.Goals as goal

@@ -1,7 +1,7 @@
 -- A comment, or nothing that may begin. Assumes nothing.
 use Rattle.std.proofs.Common.{◌≡◌, Err, sym, ap, ◌∙◌, arith, ltb-false, ltb-true}
 use Rattle.markup.specs.Runs.{shifted}
-use Rattle.markup.specs.Tags.{at_bang, in_remark, Scan, begins_none, cut_short, scan_from}
+use Rattle.markup.specs.Tags.{at_bang, in_remark, begins_none, cut_short, scan_from}
 use Rattle.markup.proofs.Scanning.{shifted_twice}
 use Rattle.xml.specs.Items.{piece_by}
 use Rattle.xml.proofs.Pieces.{past, two_dashes_lem, bang_short, dash_short, no_dash, one_dash_lem}

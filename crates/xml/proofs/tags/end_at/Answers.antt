@@ -1,5 +1,5 @@
 -- An end tag, by what comes behind its name. Assumes nothing.
-use Rattle.std.proofs.Common.{◌≡◌, ℕ, ◌+◌, ◌-◌, ◌<◌, ◌≤◌, false, length, drop, Some, sym, refl, ap, ◌∙◌, subst, arith, length-drop}
+use Rattle.std.proofs.Common.{◌≡◌, ◌+◌, false, drop, Some, sym, refl, ap, ◌∙◌, subst, arith, length-drop}
 use Rattle.vocabulary.specs.Names.{name_size}
 use Rattle.markup.specs.Grammar.{closing}
 use Rattle.markup.specs.Runs.{scan_of}

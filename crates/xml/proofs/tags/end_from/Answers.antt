@@ -1,5 +1,5 @@
 -- Behind `</`, with a name or with none. Assumes nothing.
-use Rattle.std.proofs.Common.{◌≡◌, sym, ap, ◌∙◌}
+use Rattle.std.proofs.Common.{ap, ◌∙◌}
 use Rattle.markup.specs.Runs.{run_of}
 use Rattle.markup.specs.Tags.{end_first, end_name, scan_from}
 use Rattle.markup.proofs.Scanning.{run_on}

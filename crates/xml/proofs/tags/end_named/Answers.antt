@@ -1,5 +1,5 @@
 -- An end tag of a known name. Assumes nothing.
-use Rattle.std.proofs.Common.{◌≡◌, sym, ◌∙◌, arith}
+use Rattle.std.proofs.Common.{sym, ◌∙◌, arith}
 use Rattle.std.proofs.lemmas.Slice.Eq.{bytes_eq-Decides}
 use Rattle.xml.proofs.Named.{end_of_name}
 use Rattle.xml.proofs.tags.end_named.Goals as goal

@@ -1,10 +1,8 @@
 -- A start tag, by what comes behind its name. Assumes nothing.
-use Rattle.std.proofs.Common.{◌≡◌, ℕ, ◌+◌, ◌-◌, ◌<◌, ◌≤◌, true, false, List, length, drop, Some, sym, refl, ap, ◌∙◌, subst, arith}
+use Rattle.std.proofs.Common.{◌≡◌, ◌+◌, true, false, drop, Some, sym, refl, ap, ◌∙◌, arith}
 use Rattle.vocabulary.specs.Names.{name_size}
 use Rattle.markup.specs.Grammar.{opening, empty}
-use Rattle.markup.specs.Runs.{scan_of}
 use Rattle.markup.specs.Tags.{in_name, scan_from}
-use Rattle.markup.proofs.Bounds.{Reaches}
 use Rattle.xml.proofs.Tagging.{start_reaches, start_is, start_spelt, start_misfit, start_cut, start_rest}
 use Rattle.xml.proofs.tags.start_at.Goals as goal
 

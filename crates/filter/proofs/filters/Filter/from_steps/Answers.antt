@@ -1,4 +1,4 @@
-use Rattle.std.proofs.Common.{◌≡◌, ℕ, true, cond, List, length, take, Some, None, sym, ap, ◌∙◌, subst, arith, length-set, take_all, false-eqb}
+use Rattle.std.proofs.Common.{◌≡◌, ℕ, cond, List, length, take, Some, None, sym, ap, ◌∙◌, subst, arith, length-set, take_all, false-eqb}
 use Rattle.filter.specs.declared.steps.Step.{Step}
 use Rattle.filter.specs.Filters.{are_tests}
 use Rattle.filter.proofs.Rows.{copied, good}

@@ -1,4 +1,4 @@
-use Rattle.std.proofs.Common.{sym, refl, ap, arith}
+use Rattle.std.proofs.Common.{sym, ap, arith}
 use Rattle.filter.proofs.Rows.{step_none, step_some}
 use Rattle.filter.proofs.filters.Filter.step.Goals as goal
 use Rattle.filter.proofs.filters.Filter.step.Goals.{then-k-eq0-via-then-k-eq0, then-k-eq0-via-else-k-eq0+then-k-self}

@@ -1,4 +1,4 @@
-use Rattle.std.proofs.Common.{◌+◌, ◌&&◌, drop, sym, ap, ◌∙◌, arith}
+use Rattle.std.proofs.Common.{◌+◌, ◌&&◌, drop, sym, ap, ◌∙◌}
 use Rattle.filter.specs.Filters.{are_tests}
 use Rattle.filter.proofs.Rows.{tests_more, tests_all}
 use Rattle.filter.proofs.filters.making.all_known.Goals as goal

@@ -1,4 +1,4 @@
-use Rattle.std.proofs.Common.{◌≡◌, refl, arith}
+use Rattle.std.proofs.Common.{refl, arith}
 use Rattle.filter.proofs.Opens.{ended, path_less}
 use Rattle.filter.proofs.walks.Walk.end.Goals as goal
 

@@ -1,4 +1,4 @@
-use Rattle.std.proofs.Common.{◌≡◌, suc, ◌^◌, ◌<◌, sym, refl, ap, ◌∙◌, subst, arith, rules}
+use Rattle.std.proofs.Common.{suc, ◌^◌, ◌<◌, sym, refl, subst, arith, rules}
 use Rattle.filter.specs.Embedding.{reaches}
 use Rattle.filter.proofs.Turns.{turn}
 use Rattle.filter.proofs.Bits.{any_none, col_below}

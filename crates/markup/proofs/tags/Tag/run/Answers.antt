@@ -1,7 +1,7 @@
 -- A byte of a run: the tag goes on, or it has come out. Assumes nothing.
-use Rattle.std.proofs.Common.{◌≡◌, ℕ, ◌+◌, ◌<◌, List, [], ◌∷◌, length, get_or, drop, Some, None, Option, sym, refl, ap, ◌∙◌, arith}
+use Rattle.std.proofs.Common.{◌≡◌, ℕ, ◌+◌, ◌<◌, List, length, get_or, drop, Some, None, sym, ap, ◌∙◌, arith}
 use Rattle.std.proofs.lemmas.List.{at_drop_more, at_drop_all}
-use Rattle.markup.specs.Tags.{State, Move, on, ended, misplaced, misfit, Scan, ends, begins_none, misfits, scan_by, scan_from}
+use Rattle.markup.specs.Tags.{Move, on, ended, misplaced, misfit, Scan, ends, begins_none, misfits, scan_by, scan_from}
 use Rattle.markup.specs.Runs.{run_of, steps, came_out, shifted, standing, scan_of}
 use Rattle.markup.proofs.Scanning.{shifted_later, run_on}
 use Rattle.markup.proofs.tags.Tag.run.Goals as goal

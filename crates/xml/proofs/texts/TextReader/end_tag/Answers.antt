@@ -1,8 +1,8 @@
 -- Each way over the tag is a turn. Assumes nothing.
-use Rattle.std.proofs.Common.{◌≡◌, ℕ, ◌+◌, ◌<◌, ◌≤◌, Bool, true, false, Some, Ok, Err, sym, refl, ap, ◌∙◌, subst, arith}
+use Rattle.std.proofs.Common.{Err, sym, ap, ◌∙◌, subst}
 use Rattle.std.proofs.lemmas.Result.{err_from_is_err_and}
-use Rattle.xml.specs.Texts.{codes_of, bytes_of, Turn}
-use Rattle.xml.proofs.Turns.{at_fault, unmet, some_open, closed_by_lem}
+use Rattle.xml.specs.Texts.{Turn}
+use Rattle.xml.proofs.Turns.{at_fault, unmet, closed_by_lem}
 use Rattle.xml.proofs.texts.TextReader.end_tag.Goals as goal
 
 pub returns-in_err-tag : goal.returns-in_err-tag

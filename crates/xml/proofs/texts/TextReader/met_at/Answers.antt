@@ -1,5 +1,5 @@
 -- The innermost open name, met at once. Assumes nothing.
-use Rattle.std.proofs.Common.{◌≡◌, ℕ, ◌+◌, ◌-◌, ◌<◌, ◌≤◌, length, get_or, sym, refl, ap, ◌∙◌, subst, arith}
+use Rattle.std.proofs.Common.{◌≡◌, ◌-◌, length, get_or, ap, ◌∙◌, arith}
 use Rattle.vocabulary.specs.Names.{name_size}
 use Rattle.xml.specs.declared.items.Span.{Span}
 use Rattle.xml.specs.Items.{cut}

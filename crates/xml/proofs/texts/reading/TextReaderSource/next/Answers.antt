@@ -1,13 +1,12 @@
 -- Each way through `next` is a turn. Assumes nothing.
-use Rattle.std.proofs.Common.{◌≡◌, ℕ, ◌≤◌, ltb, length, Ok, Err, sym, refl, ap, ◌∙◌, subst, arith}
+use Rattle.std.proofs.Common.{◌≡◌, ◌≤◌, length, Ok, Err, sym, refl, ap, ◌∙◌, subst}
 use Rattle.std.proofs.lemmas.Result.{err_from_is_err_and}
-use Rattle.message.specs.Sources.{Ending, faulted, told, rest, counted, last_told}
+use Rattle.message.specs.Sources.{faulted, told, rest, counted}
 use Rattle.markup.specs.Readings.{most_text}
-use Rattle.xml.specs.declared.seeking.Sought.TheVariants.{Start, End, Last}
 use Rattle.xml.specs.declared.texts.TextReader.{TextReader}
 use Rattle.xml.specs.Opened.{last_ending}
 use Rattle.xml.specs.Seeks.{SoughtIn, SoughtBy}
-use Rattle.xml.specs.Texts.{Answer, bytes_of, codes_of, stand_of, events_of, ending_of, coming_of, final_of, Turn}
+use Rattle.xml.specs.Texts.{Answer, bytes_of, codes_of, stand_of, events_of, ending_of, Turn}
 use Rattle.xml.proofs.Turns.{stay_by, events_are, ending_is, idle_coming, inside_is}
 use Rattle.xml.proofs.texts.reading.TextReaderSource.next.Goals as goal
 
