@@ -1,4 +1,4 @@
-/* Lozghemi for hosts in C: one call. Link target/staticlib/libhost.a (rt staticlib host). */
+/* Lozghemi for hosts in C: one call. Link target/staticlib/libhost.a, which tests/host/run builds. */
 #ifndef LOZGHEMI_H
 #define LOZGHEMI_H
 
