@@ -5,7 +5,6 @@ use Rattle.std.proofs.lemmas.Bool.{cond-false, ne_eqb}
 use Rattle.markup.specs.Bytes.{begins, comment_end}
 use Rattle.markup.specs.Runs.{first_from}
 use Rattle.markup.proofs.texts.comment_end.Goals as goal
-use Rattle.markup.proofs.texts.comment_end.Goals.{else-rest-n-eq45-via-then-rest-n-eq45+else-ends_comment, else-rest-n-eq45-via-else-rest-n-eq45}
 
 skip : (m : List ℕ) (i : ℕ) → i < length m → begins comment_end (drop i m) ≡ false → first_from comment_end i (drop i m) ≡ first_from comment_end (i + 1) (drop (i + 1) m)
 skip m i lt h = at_drop_more (first_from comment_end i) m i 0 lt ∙ cond-false _ _ _ (sym (at_drop_more (begins comment_end) m i 0 lt) ∙ h)
@@ -18,10 +17,7 @@ loop-n-preserved c =
     let m = c.args.rest.now in
     let n = c.loop-n.n in
     let lt : n < length m = omega arith in
-    let h : begins comment_end (drop n m) ≡ false = elim c.else-rest-n-eq45.branch [
-      | else-rest-n-eq45-via-then-rest-n-eq45+else-ends_comment w ↦ sym (ap (begins comment_end) w.from.ensures.answer) ∙ sym w.if-ends_comment.ensures.answer
-      | else-rest-n-eq45-via-else-rest-n-eq45 w ↦ other m n lt w.if-rest-n-eq45.false
-    ] in
+    let h : begins comment_end (drop n m) ≡ false = grind (arith, other) in
     (omega arith, sym (skip m n lt h) ∙ c.loop-n.invariant.1)
 
 pub returns : goal.returns

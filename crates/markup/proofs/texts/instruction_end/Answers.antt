@@ -5,7 +5,6 @@ use Rattle.std.proofs.lemmas.Bool.{cond-false, ne_eqb}
 use Rattle.markup.specs.Bytes.{begins, instruction_end}
 use Rattle.markup.specs.Runs.{first_from}
 use Rattle.markup.proofs.texts.instruction_end.Goals as goal
-use Rattle.markup.proofs.texts.instruction_end.Goals.{else-rest-n-eq63-via-then-rest-n-eq63+else-ends_instruction, else-rest-n-eq63-via-else-rest-n-eq63}
 
 skip : (m : List ℕ) (i : ℕ) → i < length m → begins instruction_end (drop i m) ≡ false → first_from instruction_end i (drop i m) ≡ first_from instruction_end (i + 1) (drop (i + 1) m)
 skip m i lt h = at_drop_more (first_from instruction_end i) m i 0 lt ∙ cond-false _ _ _ (sym (at_drop_more (begins instruction_end) m i 0 lt) ∙ h)
@@ -18,10 +17,7 @@ loop-n-preserved c =
     let m = c.args.rest.now in
     let n = c.loop-n.n in
     let lt : n < length m = omega arith in
-    let h : begins instruction_end (drop n m) ≡ false = elim c.else-rest-n-eq63.branch [
-      | else-rest-n-eq63-via-then-rest-n-eq63+else-ends_instruction w ↦ sym (ap (begins instruction_end) w.from.ensures.answer) ∙ sym w.if-ends_instruction.ensures.answer
-      | else-rest-n-eq63-via-else-rest-n-eq63 w ↦ other m n lt w.if-rest-n-eq63.false
-    ] in
+    let h : begins instruction_end (drop n m) ≡ false = grind (arith, other) in
     (omega arith, sym (skip m n lt h) ∙ c.loop-n.invariant.1)
 
 pub returns : goal.returns

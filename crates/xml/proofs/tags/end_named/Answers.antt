@@ -11,4 +11,4 @@ returns c =
     let within = c.requires.within in
     let left = c.if-name-message.false in
     let same = sym c.part.ensures.answer ∙ (bytes_eq-Decides c.part.result.now name).0 (sym c.if-not-is_same_name.ensures.answer) in
-    record { answer = (end_of_name m c.args.place name c.requires.some c.requires.name (omega arith) c.if-message-end-ne62.false c.requires.slashed same, same) }
+    record { answer = (end_of_name m c.args.place name c.requires.some c.requires.name (omega arith) (omega arith) c.requires.slashed same, same) }
