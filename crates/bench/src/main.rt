@@ -5,6 +5,7 @@ use anyhow::anyhow;
 use filter::Filter;
 use filter_text::read_filter;
 use message::{Event, Source, hit};
+use std::process::ExitCode;
 use std::time::Instant;
 use std::{env, fs};
 use vocabulary::{Fault, Vocabulary};
@@ -107,13 +108,21 @@ fn measure_hit(
     report(rt, what, nanos, rounds, elements, message.len())
 }
 
-// The first line of a file of filters.
-fn first_filter(rt: &HostRuntime, text: &str, vocabulary: &Vocabulary) -> anyhow::Result<Filter> {
+// The filter on the first line of a file; none where it was told that it is refused. An error would keep only the front of
+// a long line, and lose the reason.
+fn first_filter(
+    rt: &HostRuntime,
+    text: &str,
+    vocabulary: &Vocabulary,
+) -> anyhow::Result<Option<Filter>> {
     let mut filter = Filter::new();
     let line = text.lines().next().unwrap_or("/*");
     match read_filter(line.as_bytes(), vocabulary, &mut filter) {
-        Ok(()) => Ok(filter),
-        Err(fault) => Err(anyhow!(format!(in rt.alloc(); "filter {line}: {fault}")?)),
+        Ok(()) => Ok(Some(filter)),
+        Err(fault) => {
+            eprintln!(rt; "Error: filter {line}: {fault}")?;
+            Ok(None)
+        }
     }
 }
 
@@ -123,15 +132,18 @@ fn bench(
     filters: &str,
     path: &str,
     rounds: &str,
-) -> anyhow::Result<()> {
+) -> anyhow::Result<ExitCode> {
     let rounds = rounds.parse::<u64>()?;
     let bytes = fs::read(rt, names)?;
     let mut vocabulary = Vocabulary::new();
     if let Err(fault) = vocabulary.read(bytes.as_slice()) {
-        return Err(anyhow!(format!(in rt.alloc(); "vocabulary {names}: {fault}")?));
+        eprintln!(rt; "Error: vocabulary {names}: {fault}")?;
+        return Ok(ExitCode::FAILURE);
     }
     let text = fs::read_to_string(rt, filters)?;
-    let filter = first_filter(rt, text.as_str(), &vocabulary)?;
+    let Some(filter) = first_filter(rt, text.as_str(), &vocabulary)? else {
+        return Ok(ExitCode::FAILURE);
+    };
     let message = fs::read(rt, path)?;
     let elements = measure_reader(rt, message.as_slice(), &vocabulary, rounds)?;
     measure_hit(
@@ -141,11 +153,12 @@ fn bench(
         &filter,
         rounds,
         elements,
-    )
+    )?;
+    Ok(ExitCode::SUCCESS)
 }
 
 // One reading of a small file; only what does not vary is printed.
-fn once(rt: &HostRuntime) -> anyhow::Result<()> {
+fn once(rt: &HostRuntime) -> anyhow::Result<ExitCode> {
     let message = fs::read(rt, "small.xml")?;
     let len = message.len();
     let vocabulary = Vocabulary::new();
@@ -157,10 +170,10 @@ fn once(rt: &HostRuntime) -> anyhow::Result<()> {
         }
         Err(fault) => println!(rt; "small.xml: {fault}")?,
     }
-    Ok(())
+    Ok(ExitCode::SUCCESS)
 }
 
-fn run(rt: &HostRuntime) -> anyhow::Result<()> {
+fn run(rt: &HostRuntime) -> anyhow::Result<ExitCode> {
     let mut words = Vec::new(rt.alloc());
     for word in env::args(rt)?.skip(1) {
         words.push(word)?;
@@ -178,6 +191,6 @@ fn run(rt: &HostRuntime) -> anyhow::Result<()> {
     }
 }
 
-fn main(rt: HostRuntime) -> anyhow::Result<()> {
+fn main(rt: HostRuntime) -> anyhow::Result<ExitCode> {
     run(&rt)
 }

@@ -14,7 +14,7 @@ use vocabulary::{Fault, Vocabulary};
 use words::words_in;
 use xml::TextReader;
 
-fn help(rt: &HostRuntime) -> anyhow::Result<()> {
+fn help(rt: &HostRuntime) -> anyhow::Result<ExitCode> {
     println!(rt; "Routes customs messages by standing filters.")?;
     println!(rt; "")?;
     println!(rt; "  router hit VOCABULARY FILTER FILE...   does the filter hit these messages?")?;
@@ -23,26 +23,28 @@ fn help(rt: &HostRuntime) -> anyhow::Result<()> {
     println!(rt; "VOCABULARY  a file with one name a line, each line ended by a line feed")?;
     println!(rt; "FILTER      the filter itself, as '/D//G/*': steps of / or // and a name or *")?;
     println!(rt; "FILE        a message: a recording if its name ends in .rec, else XML text")?;
-    Ok(())
+    Ok(ExitCode::SUCCESS)
 }
 
 // The command `hit`: does this filter hit these messages?
 // Prints one line for each message. A file that holds none is told on standard error, and makes the command fail at its end.
-fn run_hit(rt: &HostRuntime, words: &[String]) -> anyhow::Result<()> {
+fn run_hit(rt: &HostRuntime, words: &[String]) -> anyhow::Result<ExitCode> {
     let [names, text, files @ ..] = words else {
         return Err(anyhow!("hit wants VOCABULARY FILTER FILE...; router --help tells more"));
     };
     if files.is_empty() {
         return Err(anyhow!("hit wants at least one FILE; router --help tells more"));
     }
-    let bytes = read_file(rt, names.as_str())?;
+    let Some(bytes) = read_file(rt, names.as_str())? else {
+        return Ok(ExitCode::FAILURE);
+    };
     let mut vocabulary = Vocabulary::new();
     if let Err(fault) = vocabulary.read(bytes.as_slice()) {
-        return Err(refusal(rt, "vocabulary", names.as_str(), fault)?);
+        return refusal(rt, "vocabulary", names.as_str(), fault);
     }
     let mut filter = Filter::new();
     if let Err(fault) = read_filter(text.as_bytes(), &vocabulary, &mut filter) {
-        return Err(refusal(rt, "filter", text.as_str(), fault)?);
+        return refusal(rt, "filter", text.as_str(), fault);
     }
     let mut unread = 0usize;
     for file in files {
@@ -51,28 +53,25 @@ fn run_hit(rt: &HostRuntime, words: &[String]) -> anyhow::Result<()> {
         }
     }
     if unread > 0 {
-        let line = format!(in rt.alloc(); "{unread} of the files hold no message, see above")?;
-        return Err(anyhow!(line));
+        eprintln!(rt; "router: {unread} of the files hold no message, see above")?;
+        return Ok(ExitCode::FAILURE);
     }
-    Ok(())
+    Ok(ExitCode::SUCCESS)
 }
 
-fn refusal(
-    rt: &HostRuntime,
-    kind: &str,
-    name: &str,
-    fault: Fault,
-) -> anyhow::Result<anyhow::Error> {
-    let line = format!(in rt.alloc(); "{kind} {name}: {fault}")?;
-    Ok(anyhow!(line))
+// Tells what refuses the command. An error would keep only the front of a long name, and lose the reason.
+fn refusal(rt: &HostRuntime, kind: &str, name: &str, fault: Fault) -> anyhow::Result<ExitCode> {
+    eprintln!(rt; "router: {kind} {name}: {fault}")?;
+    Ok(ExitCode::FAILURE)
 }
 
-fn read_file(rt: &HostRuntime, path: &str) -> anyhow::Result<Vec<u8>> {
+// The bytes of a file; none where it was told that it cannot be read.
+fn read_file(rt: &HostRuntime, path: &str) -> anyhow::Result<Option<Vec<u8>>> {
     match fs::read(rt, path) {
-        Ok(bytes) => Ok(bytes),
+        Ok(bytes) => Ok(Some(bytes)),
         Err(error) => {
-            let line = format!(in rt.alloc(); "{path}: cannot be read: {error}")?;
-            Err(anyhow!(line))
+            eprintln!(rt; "router: {path}: cannot be read: {error}")?;
+            Ok(None)
         }
     }
 }
@@ -124,7 +123,7 @@ fn answer(
     Ok(true)
 }
 
-fn run(rt: &HostRuntime) -> anyhow::Result<()> {
+fn run(rt: &HostRuntime) -> anyhow::Result<ExitCode> {
     let mut words = Vec::new(rt.alloc());
     for word in env::args(rt)?.skip(1) {
         words.push(word)?;
@@ -140,10 +139,12 @@ fn run(rt: &HostRuntime) -> anyhow::Result<()> {
 }
 
 fn main(rt: HostRuntime) -> ExitCode {
-    let Err(error) = run(&rt) else {
-        return ExitCode::SUCCESS;
-    };
-    // where this fails there is nowhere left to tell it
-    let _told = eprintln!(rt; "router: {error}");
-    ExitCode::FAILURE
+    match run(&rt) {
+        Ok(code) => code,
+        Err(error) => {
+            // where this fails there is nowhere left to tell it
+            let _told = eprintln!(rt; "router: {error}");
+            ExitCode::FAILURE
+        }
+    }
 }
