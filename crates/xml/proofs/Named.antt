@@ -1,11 +1,11 @@
 -- The name of a tag stands alone in its bytes, and an end tag of a known name. Assumes nothing.
-use Rattle.std.proofs.Common.{◌≡◌, ℕ, zero, suc, ◌+◌, ◌-◌, ◌<◌, ◌≤◌, Bool, true, false, cond, eqb, List, [], ◌∷◌, length, get_or, take, drop, sym, refl, ap, ◌∙◌, subst, arith, length-drop}
+use Rattle.std.proofs.Common.{◌≡◌, ℕ, zero, suc, ◌+◌, ◌-◌, ◌<◌, ◌≤◌, Bool, true, false, cond, eqb, eqb-true, eq-eqb, List, [], ◌∷◌, ◌++◌, length, get_or, take, drop, sym, refl, ap, ◌∙◌, subst, arith, length-drop}
 use Rattle.std.specs.List.{prefix_len}
 use Rattle.std.proofs.lemmas.List.{get_or-drop, length-take-le, drop_more}
 use Rattle.std.proofs.lemmas.List.Sums.{prefix_len-le-length}
 use Rattle.std.proofs.lemmas.Bool.{cond-true, cond-false}
 use Rattle.vocabulary.specs.Names.{is_name_start, is_name_byte, name_size}
-use Rattle.markup.specs.Bytes.{name_start, name_byte, white, front}
+use Rattle.markup.specs.Bytes.{close_angle, name_start, name_byte, white, begins, front}
 use Rattle.markup.specs.Runs.{shifted}
 use Rattle.markup.specs.Grammar.{Kind, opening, empty, closing, comment, instruction}
 use Rattle.markup.specs.Tags.{at_open, end_first, end_name, on, after, Scan, cut_short, ends, begins_none, misfits, name_in, scan_by, scan_from}
@@ -147,3 +147,50 @@ tag_name m p f t is =
     let leads : name_size s ≡ prefix_len is_name_byte s = name_leads s some in
     let spelt : cut m t.name ≡ front name_byte s = is.spelt ∙ named_in f (take t.len s) ∙ front_take s t.len (omega arith) in
     opened_name m p t.name some is.order is.inside spelt
+
+-- a name and a `>` stand in front exactly where there is room for them and both are found
+pub stands : (name s : List ℕ) → length name < length s → take (length name) s ≡ name → get_or s (length name) 0 ≡ 62 → begins (name ++ close_angle ∷ []) s ≡ true
+stands [] [] lt same at = absurd (omega arith)
+stands [] (b ∷ s) lt same at = cond-true _ _ _ (eq-eqb 62 b (sym at))
+stands (a ∷ name) [] lt same at = absurd (omega arith)
+stands (a ∷ name) (b ∷ s) lt same at =
+    let e : a ≡ b = cc in
+    let rest : take (length name) s ≡ name = cc in
+    cond-true _ _ _ (eq-eqb a b e) ∙ stands name s (omega arith) rest at
+
+pub stood : (name s : List ℕ) → begins (name ++ close_angle ∷ []) s ≡ true → (length name < length s) × (take (length name) s ≡ name) × (get_or s (length name) 0 ≡ 62)
+stood [] [] h = absurd (let z : ◌≡◌ {A = ℕ} 0 1 = cc in omega arith)
+stood [] (b ∷ s) h = by_byte (eqb 62 b) refl h
+  where
+    by_byte : (p : Bool) → eqb 62 b ≡ p → cond p true false ≡ true → (0 < suc (length s)) × (◌≡◌ {A = List ℕ} [] []) × (b ≡ 62)
+    by_byte true e h = (omega arith, refl, sym (eqb-true 62 b e))
+    by_byte false e h = absurd (let z : ◌≡◌ {A = ℕ} 0 1 = cc in omega arith)
+stood (a ∷ name) [] h = absurd (let z : ◌≡◌ {A = ℕ} 0 1 = cc in omega arith)
+stood (a ∷ name) (b ∷ s) h = by_byte (eqb a b) refl (stood name s) h
+  where
+    by_byte : (p : Bool) → eqb a b ≡ p → (begins (name ++ close_angle ∷ []) s ≡ true → (length name < length s) × (take (length name) s ≡ name) × (get_or s (length name) 0 ≡ 62)) → cond p (begins (name ++ close_angle ∷ []) s) false ≡ true → (suc (length name) < suc (length s)) × (b ∷ take (length name) s ≡ a ∷ name) × (get_or s (length name) 0 ≡ 62)
+    by_byte true e ih h =
+        let far = ih h in
+        let same : a ≡ b = eqb-true a b e in
+        let rest : take (length name) s ≡ name = far.1 in
+        (omega arith, cc, far.2)
+    by_byte false e ih h = absurd (let z : ◌≡◌ {A = ℕ} 0 1 = cc in omega arith)
+
+-- what does not hold is false
+pub untrue : (b : Bool) → (b ≡ true → ⊥) → false ≡ b
+untrue true h = absurd (h refl)
+untrue false h = refl
+
+-- the same at a place of a message
+pub stands_at : (m : List ℕ) (p : ℕ) (name : List ℕ) → p + 2 + length name < length m → get_or m (p + 2 + length name) 0 ≡ 62 → cut m (record { start = p + 2; end = p + 2 + length name }) ≡ name → begins (name ++ close_angle ∷ []) (drop (p + 2) m) ≡ true
+stands_at m p name lt at same =
+    let n = length name in
+    let l = length-drop (p + 2) m in
+    stands name (drop (p + 2) m) (omega arith) (sym (part_is m (p + 2) n) ∙ same) (get_or-drop (p + 2) m n 0 ∙ at)
+
+pub stood_at : (m : List ℕ) (p : ℕ) (name : List ℕ) → p + 2 ≤ length m → begins (name ++ close_angle ∷ []) (drop (p + 2) m) ≡ true → (p + 2 + length name < length m) × (cut m (record { start = p + 2; end = p + 2 + length name }) ≡ name) × (get_or m (p + 2 + length name) 0 ≡ 62)
+stood_at m p name within h =
+    let n = length name in
+    let l = length-drop (p + 2) m in
+    let far = stood name (drop (p + 2) m) h in
+    (omega arith, part_is m (p + 2) n ∙ far.1, sym (get_or-drop (p + 2) m n 0) ∙ far.2)

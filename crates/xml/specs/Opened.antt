@@ -1,5 +1,5 @@
 -- The fields of a reader after a tag. Assumes nothing.
-use Rattle.std.specs.Prelude.{◌≡◌, ℕ, ◌+◌, Bool, cond, List, [], ◌∷◌, Some, None, Ok, Err, Option, Result, nat_le}
+use Rattle.std.specs.Prelude.{◌≡◌, ℕ, ◌+◌, Bool, false, cond, List, [], ◌∷◌, ◌++◌, Some, None, Ok, Err, Option, Result, nat_le}
 use Rattle.vocabulary.specs.declared.faults.Fault.{Fault}
 use Rattle.vocabulary.specs.declared.faults.Question.TheVariants.{TagAfterRoot, TagTooDeep, EndTagUnmet, TextNotEnded}
 use Rattle.vocabulary.specs.Faults.{fault}
@@ -9,6 +9,7 @@ use Rattle.message.specs.Sources.{Ending, closed, faulted}
 use Rattle.xml.specs.declared.items.Span.{Span}
 use Rattle.xml.specs.declared.tags.Tagged.{Tagged}
 use Rattle.xml.specs.declared.texts.TextReader.{TextReader}
+use Rattle.markup.specs.Bytes.{begins, close_angle}
 use Rattle.markup.specs.Grammar.{closing}
 use Rattle.xml.specs.Items.{cut}
 use Rattle.xml.specs.Tags.{TagIs}
@@ -27,6 +28,11 @@ met (x ∷ xs) p n = cond (bytes_eq x n) (Ok tt) (Err (fault EndTagUnmet p))
 abbrev pub MetAt : List ℕ → List (List ℕ) → ℕ → Option Tagged → Type 0
 MetAt m names p None = Unit {0}
 MetAt m names p (Some t) = TagIs m p closing t × (met names p (cut m t.name) ≡ Ok tt)
+
+-- the innermost of these open elements' name stands in front, with a `>` right behind it
+abbrev pub closes_innermost : List (List ℕ) → List ℕ → Bool
+closes_innermost [] s = false
+closes_innermost (x ∷ xs) s = begins (x ++ close_angle ∷ []) s
 
 -- how the message ends where its text does
 abbrev pub last_ending : Bool → ℕ → Ending

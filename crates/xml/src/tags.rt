@@ -1,7 +1,7 @@
 // The tag at a place of a message: its name, where it ends, and its kind.
-ghost use Rattle.std.specs.Prelude.{◌≡◌, ◌+◌, ◌<◌, ◌≤◌, ◌∷◌, length, drop};
+ghost use Rattle.std.specs.Prelude.{◌≡◌, ◌+◌, ◌<◌, ◌≤◌, ◌∷◌, length, drop, [], ◌++◌, is_some};
 ghost use Rattle.vocabulary.specs.Names.{name_size};
-ghost use Rattle.markup.specs.Bytes.{slash};
+ghost use Rattle.markup.specs.Bytes.{begins, close_angle, slash};
 ghost use Rattle.markup.specs.Readings.{most_text};
 ghost use Rattle.markup.specs.Runs.{scan_of};
 ghost use Rattle.markup.specs.Tags.{end_first, scan_from};
@@ -91,6 +91,7 @@ pub(crate) fn end_named(message: &[u8], place: usize, name: &[u8]) -> Option<Tag
     requires some { 0 < length name.now }
     requires name { length name.now ≤ name_size name.now }
     ensures answer { EndNamed message.now place name.now result }
+    ensures when { is_some result ≡ begins (name.now ++ close_angle ∷ []) (drop (place + 2) message.now) }
 {
     let start = place + 2;
     if name.len() >= message.len() - start {
@@ -98,7 +99,8 @@ pub(crate) fn end_named(message: &[u8], place: usize, name: &[u8]) -> Option<Tag
     }
     let end = start + name.len();
     let span = Span { start, end };
-    if message[end] != b'>' || !is_same_name(part(message, span), name) {
+    let is_closed = message[end] == b'>';
+    if !is_closed || !is_same_name(part(message, span), name) {
         return None;
     }
     Some(Tagged {

@@ -1,5 +1,5 @@
 // Reading a message tag by tag.
-ghost use Rattle.std.specs.Prelude.{◌≡◌, ◌+◌, ◌-◌, ◌<◌, ◌≤◌, false, ◌∷◌, length, drop, Some, None, ◌==◌};
+ghost use Rattle.std.specs.Prelude.{◌≡◌, ◌+◌, ◌-◌, ◌<◌, ◌≤◌, false, ◌∷◌, length, drop, Some, None, ◌==◌, is_some};
 ghost use Rattle.std.specs.Option.{option_map};
 ghost use Rattle.vocabulary.specs.Limits.{most_open};
 ghost use Rattle.vocabulary.specs.Names.{name_size};
@@ -10,7 +10,7 @@ ghost use Rattle.markup.specs.Documents.{code_or_0};
 ghost use Rattle.markup.specs.Grammar.{closing};
 ghost use Rattle.markup.specs.Readings.{Grammatical, most_text, text_ending, text_events};
 ghost use Rattle.xml.specs.Items.{cut};
-ghost use Rattle.xml.specs.Opened.{admitted, After, last_ending, met, MetAt};
+ghost use Rattle.xml.specs.Opened.{admitted, After, closes_innermost, last_ending, met, MetAt};
 ghost use Rattle.xml.specs.Seeks.{Onwards};
 ghost use Rattle.xml.specs.Tags.{started_by, TagIs};
 ghost use Rattle.xml.specs.Texts.{bytes_of, CodeOf, codes_of, ending_of, events_of, held, latest_after, latest_of, names_at, sound_of, stand_of, taken_of, Turn};
@@ -155,6 +155,7 @@ impl<'a, 'v, 'n> TextReader<'a, 'v, 'n> {
         requires within { place + 2 ≤ length (bytes_of self.now) }
         requires slashed { drop (place + 1) (bytes_of self.now) ≡ slash ∷ drop (place + 2) (bytes_of self.now) }
         ensures answer { MetAt (bytes_of self.now) (names_at (bytes_of self.now) self.now.spans self.now.depth) place result }
+        ensures when { is_some result ≡ closes_innermost (names_at (bytes_of self.now) self.now.spans self.now.depth) (drop (place + 2) (bytes_of self.now)) }
     {
         if self.depth == 0 {
             return None;

@@ -1,8 +1,10 @@
 -- The innermost open name, met at once. Assumes nothing.
-use Rattle.std.proofs.Common.{◌≡◌, ◌-◌, length, get_or, ap, ◌∙◌, arith}
+use Rattle.std.proofs.Common.{◌≡◌, ◌+◌, ◌-◌, [], ◌∷◌, ◌++◌, length, get_or, drop, sym, ap, ◌∙◌, arith}
 use Rattle.vocabulary.specs.Names.{name_size}
 use Rattle.xml.specs.declared.items.Span.{Span}
+use Rattle.markup.specs.Bytes.{begins, close_angle}
 use Rattle.xml.specs.Items.{cut}
+use Rattle.xml.specs.Opened.{closes_innermost}
 use Rattle.xml.specs.Texts.{bytes_of}
 use Rattle.xml.proofs.Named.{cut_length}
 use Rattle.xml.proofs.Stack.{last, met_by}
@@ -34,4 +36,8 @@ returns c =
     let low = s.shallow in
     let some = c.if-self-eq0.false in
     let tops = last (bytes_of s) s.spans s.depth none (omega arith) (omega arith) in
-    record { answer = met_by (bytes_of s) c.args.place c.end_named.result tops c.part.ensures.answer c.end_named.ensures.answer }
+    let ahead = drop (c.args.place + 2) (bytes_of s) in
+    record {
+      answer = met_by (bytes_of s) c.args.place c.end_named.result tops c.part.ensures.answer c.end_named.ensures.answer;
+      when = c.end_named.ensures.when ∙ ap (λ x. begins (x ++ close_angle ∷ []) ahead) c.part.ensures.answer ∙ sym (ap (λ ns. closes_innermost ns ahead) tops);
+    }
