@@ -3,109 +3,101 @@
 
 use anyhow::anyhow;
 use filter::Filter;
-use filter_text::read_filter;
+use filter_text::parse_filter;
 use message::{Event, Source, hit};
 use std::process::ExitCode;
-use std::time::Instant;
+use std::time::{Duration, Instant};
 use std::{env, fs};
 use vocabulary::{Fault, Vocabulary};
 use xml::TextReader;
 
 // What one reading of a message counted.
-#[derive(Clone, Copy)]
+#[derive(Clone, Copy, Debug, Default, PartialEq, Eq)]
 struct Counted {
     elements: u64,
     events: u64,
 }
 
+// A message that is read so many times, by a vocabulary.
+#[derive(Clone, Copy)]
+struct Job<'a> {
+    message: &'a [u8],
+    vocabulary: &'a Vocabulary<'a>,
+    rounds: u64,
+}
+
 fn count(message: &[u8], vocabulary: &Vocabulary) -> Result<Counted, Fault> {
     let mut reader = TextReader::new(message, vocabulary);
-    let mut counted = Counted {
-        elements: 0,
-        events: 0,
-    };
+    let mut counted = Counted::default();
+    // the bound is only there to show that this ends
     for _ in 0..=message.len() {
-        match reader.next()? {
-            Some(Event::Start { .. }) => {
-                counted.elements = counted.elements.wrapping_add(1);
-                counted.events = counted.events.wrapping_add(1);
-            }
-            Some(Event::End { .. }) => counted.events = counted.events.wrapping_add(1),
-            None => break,
+        let Some(event) = reader.next()? else {
+            break;
+        };
+        counted.events = counted.events.wrapping_add(1);
+        if matches!(event, Event::Start { .. }) {
+            counted.elements = counted.elements.wrapping_add(1);
         }
     }
     Ok(counted)
 }
 
-// Prints nanoseconds per element and megabytes per second.
-fn report(
-    rt: &HostRuntime,
-    what: &str,
-    nanos: u128,
-    rounds: u64,
-    elements: u64,
-    bytes: usize,
-) -> anyhow::Result<()> {
-    let total = u128::from(rounds) * u128::from(elements.max(1));
-    let tenths = nanos.max(1).saturating_mul(10) / total.max(1);
-    let whole = tenths / 10;
-    let tenth = tenths % 10;
-    let rate = u128::from(rounds)
-        .saturating_mul(bytes as u128)
-        .saturating_mul(1000)
-        / nanos.max(1);
-    println!(rt; "{what}: {whole}.{tenth} ns per element, {rate} MB/s")?;
-    Ok(())
+impl<'a> Job<'a> {
+    // Does the work in each round, and answers what the last one counted and the time of all.
+    fn time<F: FnMut(&Job<'a>) -> Result<u64, Fault>>(
+        &self,
+        rt: &HostRuntime,
+        mut work: F,
+    ) -> anyhow::Result<(u64, Duration)>
+        requires { F.IsAlwaysCallable work }
+    {
+        let mut counted = 0;
+        let start = Instant::now(rt)?;
+        for _ in 0..self.rounds {
+            match work(self) {
+                Ok(n) => counted = n,
+                Err(fault) => return Err(anyhow!(format!(in rt.alloc(); "message: {fault}")?)),
+            }
+        }
+        Ok((counted, start.elapsed(rt)?))
+    }
+
+    // Prints nanoseconds per element and megabytes per second.
+    fn report(
+        &self,
+        rt: &HostRuntime,
+        what: &str,
+        time: Duration,
+        elements: u64,
+    ) -> anyhow::Result<()> {
+        let nanos = time.as_nanos().max(1);
+        let rounds = u128::from(self.rounds);
+        let total = rounds * u128::from(elements.max(1));
+        let tenths = nanos.saturating_mul(10) / total.max(1);
+        let whole = tenths / 10;
+        let tenth = tenths % 10;
+        let rate = rounds
+            .saturating_mul(self.message.len() as u128)
+            .saturating_mul(1000)
+            / nanos;
+        println!(rt; "{what}: {whole}.{tenth} ns per element, {rate} MB/s")?;
+        Ok(())
+    }
 }
 
-fn measure_reader(
-    rt: &HostRuntime,
-    message: &[u8],
-    vocabulary: &Vocabulary,
-    rounds: u64,
-) -> anyhow::Result<u64> {
-    let mut elements = 0;
-    let start = Instant::now(rt)?;
-    for _ in 0..rounds {
-        match count(message, vocabulary) {
-            Ok(counted) => elements = counted.elements,
-            Err(fault) => return Err(anyhow!(format!(in rt.alloc(); "message: {fault}")?)),
-        }
-    }
-    report(
-        rt,
-        "reader",
-        start.elapsed(rt)?.as_nanos(),
-        rounds,
-        elements,
-        message.len(),
-    )?;
-    Ok(elements)
-}
-
-fn measure_hit(
-    rt: &HostRuntime,
-    message: &[u8],
-    vocabulary: &Vocabulary,
-    filter: &Filter,
-    rounds: u64,
-    elements: u64,
-) -> anyhow::Result<()> {
-    let mut hits = 0u64;
-    let start = Instant::now(rt)?;
-    for _ in 0..rounds {
-        let mut reader = TextReader::new(message, vocabulary);
-        if let Ok(true) = hit(filter, &mut reader) {
-            hits = hits.wrapping_add(1);
-        }
-    }
-    let nanos = start.elapsed(rt)?.as_nanos();
+fn measure(rt: &HostRuntime, job: &Job, filter: &Filter) -> anyhow::Result<()> {
+    let (elements, time) = job.time(rt, |job| Ok(count(job.message, job.vocabulary)?.elements))?;
+    job.report(rt, "reader", time, elements)?;
+    let (hits, time) = job.time(rt, |job| {
+        let mut reader = TextReader::new(job.message, job.vocabulary);
+        Ok(u64::from(hit(filter, &mut reader)?))
+    })?;
     let what = if hits > 0 {
         "one filter (hit)"
     } else {
         "one filter (no hit)"
     };
-    report(rt, what, nanos, rounds, elements, message.len())
+    job.report(rt, what, time, elements)
 }
 
 // The filter on the first line of a file; none where it was told that it is refused. An error would keep only the front of
@@ -115,10 +107,9 @@ fn first_filter(
     text: &str,
     vocabulary: &Vocabulary,
 ) -> anyhow::Result<Option<Filter>> {
-    let mut filter = Filter::new();
     let line = text.lines().next().unwrap_or("/*");
-    match read_filter(line.as_bytes(), vocabulary, &mut filter) {
-        Ok(()) => Ok(Some(filter)),
+    match parse_filter(line.as_bytes(), vocabulary) {
+        Ok(filter) => Ok(Some(filter)),
         Err(fault) => {
             eprintln!(rt; "Error: filter {line}: {fault}")?;
             Ok(None)
@@ -135,25 +126,24 @@ fn bench(
 ) -> anyhow::Result<ExitCode> {
     let rounds = rounds.parse::<u64>()?;
     let bytes = fs::read(rt, names)?;
-    let mut vocabulary = Vocabulary::new();
-    if let Err(fault) = vocabulary.read(bytes.as_slice()) {
-        eprintln!(rt; "Error: vocabulary {names}: {fault}")?;
-        return Ok(ExitCode::FAILURE);
-    }
+    let vocabulary = match Vocabulary::try_from(bytes.as_slice()) {
+        Ok(vocabulary) => vocabulary,
+        Err(fault) => {
+            eprintln!(rt; "Error: vocabulary {names}: {fault}")?;
+            return Ok(ExitCode::FAILURE);
+        }
+    };
     let text = fs::read_to_string(rt, filters)?;
     let Some(filter) = first_filter(rt, text.as_str(), &vocabulary)? else {
         return Ok(ExitCode::FAILURE);
     };
     let message = fs::read(rt, path)?;
-    let elements = measure_reader(rt, message.as_slice(), &vocabulary, rounds)?;
-    measure_hit(
-        rt,
-        message.as_slice(),
-        &vocabulary,
-        &filter,
+    let job = Job {
+        message: message.as_slice(),
+        vocabulary: &vocabulary,
         rounds,
-        elements,
-    )?;
+    };
+    measure(rt, &job, &filter)?;
     Ok(ExitCode::SUCCESS)
 }
 
@@ -163,9 +153,7 @@ fn once(rt: &HostRuntime) -> anyhow::Result<ExitCode> {
     let len = message.len();
     let vocabulary = Vocabulary::new();
     match count(message.as_slice(), &vocabulary) {
-        Ok(counted) => {
-            let elements = counted.elements;
-            let events = counted.events;
+        Ok(Counted { elements, events }) => {
             println!(rt; "small.xml: {len} bytes, {elements} elements, {events} events")?;
         }
         Err(fault) => println!(rt; "small.xml: {fault}")?,
@@ -174,10 +162,7 @@ fn once(rt: &HostRuntime) -> anyhow::Result<ExitCode> {
 }
 
 fn run(rt: &HostRuntime) -> anyhow::Result<ExitCode> {
-    let mut words = Vec::new(rt.alloc());
-    for word in env::args(rt)?.skip(1) {
-        words.push(word)?;
-    }
+    let words: Vec<String> = env::args(rt)?.skip(1).collect(rt.alloc())?;
     match words.as_slice() {
         [] => once(rt),
         [names, filters, path, rounds] => bench(

@@ -2,11 +2,10 @@
 #![tactic(auto)]
 
 use anyhow::anyhow;
-use filter::Filter;
-use filter_text::read_filter;
+use filter_text::parse_filter;
 use message::{Event, Source};
 use std::alloc::{AllocError, Global};
-use std::fs;
+use std::{fmt, fs};
 use vocabulary::{Fault, Vocabulary};
 use xml::TextReader;
 
@@ -26,13 +25,44 @@ const EXAMPLES: [(&str, &str); 12] = [
     ("<D>]]> & -- <!-- -- --></D >", "closes"),
 ];
 
-// What the reader says of a message, or of a filter.
-#[derive(Clone, Copy)]
+// What the reader says of a message, or of a filter. Not a Result: four words are told, and a refusal is one that may be expected.
+#[derive(Clone, Copy, Debug, PartialEq, Eq)]
 enum Verdict {
     Closes,
     Accepted,
     Refused(Fault),
     Unending,
+}
+
+impl fmt::Display for Verdict {
+    fn fmt<W: fmt::Write>(&self, f: &mut fmt::Formatter<W>) -> fmt::Result {
+        match self {
+            Verdict::Closes => write!(f, "closes"),
+            Verdict::Accepted => write!(f, "accepted"),
+            Verdict::Refused(fault) => {
+                let number = u8::from(fault.question);
+                let place = fault.place;
+                write!(f, "refused {number} at {place}")
+            }
+            Verdict::Unending => write!(f, "does not end"),
+        }
+    }
+}
+
+// How many cases were judged, and how many of them differ from what is expected.
+#[derive(Clone, Copy, Debug, Default, PartialEq, Eq)]
+struct Tally {
+    cases: usize,
+    differ: usize,
+}
+
+impl Tally {
+    fn note(&mut self, is_expected: bool) {
+        self.cases = self.cases.saturating_add(1);
+        if !is_expected {
+            self.differ = self.differ.saturating_add(1);
+        }
+    }
 }
 
 fn push_name(names: &mut String, name: &[u8]) -> Result<(), AllocError> {
@@ -65,23 +95,6 @@ fn read(message: &[u8], names: &mut String) -> Result<Verdict, AllocError> {
     Ok(Verdict::Unending)
 }
 
-fn describe(heap: Global, verdict: Verdict) -> Result<String, AllocError> {
-    match verdict {
-        Verdict::Closes => String::from_str(heap, "closes"),
-        Verdict::Accepted => String::from_str(heap, "accepted"),
-        Verdict::Refused(fault) => {
-            let number = fault.question.number();
-            let place = fault.place;
-            format!(in heap; "refused {number} at {place}")
-        }
-        Verdict::Unending => String::from_str(heap, "does not end"),
-    }
-}
-
-fn expectation(heap: Global, verdict: &str, names: &str) -> Result<String, AllocError> {
-    format!(in heap; "{verdict} ({names})")
-}
-
 // Prints the line of one case; true where it is as expected. The names count only where the message closes.
 fn judge(
     rt: &HostRuntime,
@@ -91,15 +104,15 @@ fn judge(
     names: &str,
 ) -> anyhow::Result<bool> {
     let mut found = String::new(rt.alloc());
-    let said = read(message, &mut found)?;
-    let told = describe(rt.alloc(), said)?;
-    let expected = expectation(rt.alloc(), verdict, names)?;
+    let told = read(message, &mut found)?.to_string(rt.alloc())?;
     if told.as_str() != verdict {
-        println!(rt; "{label}: DIFFERS: {told} where {expected} is expected")?;
+        println!(rt; "{label}: DIFFERS: {told} where {verdict} ({names}) is expected")?;
         return Ok(false);
     }
     if verdict == "closes" && found.as_str() != names {
-        println!(rt; "{label}: DIFFERS: {told} with other names where {expected} is expected")?;
+        println!(rt;
+            "{label}: DIFFERS: {told} with other names where {verdict} ({names}) is expected"
+        )?;
         return Ok(false);
     }
     println!(rt; "{label}: {told}")?;
@@ -135,41 +148,29 @@ fn judge_depth(rt: &HostRuntime, depth: usize, verdict: &str) -> anyhow::Result<
 fn judge_steps(rt: &HostRuntime, steps: usize, verdict: &str) -> anyhow::Result<bool> {
     let text = repeated(rt.alloc(), "/*", steps)?;
     let vocabulary = Vocabulary::new();
-    let mut filter = Filter::new();
-    let said = match read_filter(text.as_str().as_bytes(), &vocabulary, &mut filter) {
-        Ok(()) => Verdict::Accepted,
+    let said = match parse_filter(text.as_str().as_bytes(), &vocabulary) {
+        Ok(_) => Verdict::Accepted,
         Err(fault) => Verdict::Refused(fault),
     };
-    let told = describe(rt.alloc(), said)?;
+    let told = said.to_string(rt.alloc())?;
     println!(rt; "{steps} steps: {told}")?;
     Ok(told.as_str() == verdict)
 }
 
 // The last that is accepted and the first that is refused.
-fn judge_edges(rt: &HostRuntime) -> anyhow::Result<usize> {
-    let edges = [
-        judge_depth(rt, 32, "closes")?,
-        judge_depth(rt, 33, "refused 37 at 96")?,
-        judge_steps(rt, 8, "accepted")?,
-        judge_steps(rt, 9, "refused 22 at 16")?,
-    ];
-    let mut differ = 0usize;
-    for is_expected in edges {
-        if !is_expected {
-            differ = differ.saturating_add(1);
-        }
-    }
-    Ok(differ)
+fn judge_edges(rt: &HostRuntime, tally: &mut Tally) -> anyhow::Result<()> {
+    tally.note(judge_depth(rt, 32, "closes")?);
+    tally.note(judge_depth(rt, 33, "refused 37 at 96")?);
+    tally.note(judge_steps(rt, 8, "accepted")?);
+    tally.note(judge_steps(rt, 9, "refused 22 at 16")?);
+    Ok(())
 }
 
-fn judge_examples(rt: &HostRuntime) -> anyhow::Result<usize> {
-    let mut differ = 0usize;
-    for (message, verdict) in EXAMPLES.iter() {
-        if !judge(rt, message, message.as_bytes(), verdict, "D")? {
-            differ = differ.saturating_add(1);
-        }
+fn judge_examples(rt: &HostRuntime, tally: &mut Tally) -> anyhow::Result<()> {
+    for (message, verdict) in EXAMPLES {
+        tally.note(judge(rt, message, message.as_bytes(), verdict, "D")?);
     }
-    Ok(differ)
+    Ok(())
 }
 
 // A line of the expectations: file, verdict, how it stands to XML 1.0, names.
@@ -189,15 +190,14 @@ fn judge_line(rt: &HostRuntime, line: &str) -> anyhow::Result<bool> {
 }
 
 fn run(rt: &HostRuntime) -> anyhow::Result<()> {
-    let mut differ = judge_examples(rt)?.saturating_add(judge_edges(rt)?);
-    let mut cases = EXAMPLES.len() + 4;
+    let mut tally = Tally::default();
+    judge_examples(rt, &mut tally)?;
+    judge_edges(rt, &mut tally)?;
     let text = fs::read_to_string(rt, "expected.txt")?;
     for line in text.as_str().lines() {
-        cases = cases.saturating_add(1);
-        if !judge_line(rt, line)? {
-            differ = differ.saturating_add(1);
-        }
+        tally.note(judge_line(rt, line)?);
     }
+    let Tally { cases, differ } = tally;
     println!(rt; "{cases} cases, {differ} differ")?;
     if differ > 0 {
         return Err(anyhow!("the reader differs from what is expected"));

@@ -1,8 +1,8 @@
 -- Columns of bits, and how far a table looks. Assumes nothing.
-use Rattle.std.proofs.Common.{◌≡◌, ℕ, zero, suc, ◌+◌, ◌*◌, ◌/◌, ◌%◌, ◌^◌, ◌<◌, ◌≤◌, Bool, true, false, cond, not, ◌&&◌, ◌||◌, eqb, List, get_or, sym, refl, ap, ◌∙◌, add-zero, mod-eq_of_lt, add_comm, one-mul, arith}
+use Rattle.std.proofs.Common.{◌≡◌, ℕ, zero, suc, ◌+◌, ◌-◌, ◌*◌, ◌/◌, ◌%◌, ◌^◌, ◌<◌, ◌≤◌, Bool, true, false, cond, not, ◌&&◌, ◌||◌, eqb, List, get_or, sym, refl, ap, ◌∙◌, add-zero, mod-eq_of_lt, add_comm, one-mul, arith}
 use native.Mathlib.Nat.{pow-succ', div-eq_of_lt}
-use lib.Bits.{bit_or, or_shifted_r}
-use Rattle.std.proofs.lemmas.Nat.{pow_pos, one_shl, shr_high, mod_low}
+use lib.Bits.{bit_and, bit_or, or_shifted_r}
+use Rattle.std.proofs.lemmas.Nat.{pow_pos, and_mask, one_shl, shr_high, mod_low}
 use Rattle.std.proofs.lemmas.Bool.{ne_eqb}
 use Rattle.filter.specs.declared.steps.Axis.{Axis}
 use Rattle.filter.specs.declared.steps.Axis.TheVariants.{Child, Descendant}
@@ -50,6 +50,10 @@ mod_col f d = rest (f (suc d)) (column f d) d (col_below f d)
 pub or_fresh : (x d : ℕ) → d < 32 → x < 2 ^ d → bit_or x ((1 * 2 ^ d) % 2 ^ 32) ≡ x + 2 ^ d
 or_fresh x d h l = ap (bit_or x) (one_shl d 32 h ∙ sym (one-mul (2 ^ d))) ∙ or_shifted_r 1 d x l ∙ ap (λ z. z + x) (one-mul (2 ^ d)) ∙ add_comm (2 ^ d) x
 
+-- a mask without its bits from d on
+pub kept_bits : (mask d : ℕ) → d < 32 → bit_and mask ((1 * 2 ^ d) % 2 ^ 32 - 1) ≡ mask % 2 ^ d
+kept_bits mask d h = ap (λ x. bit_and mask (x - 1)) (one_shl d 32 h) ∙ and_mask mask d
+
 -- the empty prefix is above any depth
 pub any_none : (ss : List Step) (path : List ℕ) (d : ℕ) → any_to (reaches ss path 0) d ≡ true
 any_none ss path zero = refl
@@ -70,11 +74,11 @@ any_local f g (suc d) h =
     let b = h (suc d) (omega arith) in
     (λ i. b i || a i)
 
-pub link_local : (x : Axis) (f g : ℕ → Bool) (d : ℕ) → ((e : ℕ) → e ≤ d → f e ≡ g e) → linked x f d ≡ linked x g d
+link_local : (x : Axis) (f g : ℕ → Bool) (d : ℕ) → ((e : ℕ) → e ≤ d → f e ≡ g e) → linked x f d ≡ linked x g d
 link_local Child f g d h = h d (omega arith)
 link_local Descendant f g d h = any_local f g d h
 
-pub reaches_local : (ss ts : List Step) (p q : List ℕ) (k e : ℕ) → ((j : ℕ) → j < k → get_or ss j blank ≡ get_or ts j blank) → ((j : ℕ) → j < e → get_or p j 0 ≡ get_or q j 0) → reaches ss p k e ≡ reaches ts q k e
+reaches_local : (ss ts : List Step) (p q : List ℕ) (k e : ℕ) → ((j : ℕ) → j < k → get_or ss j blank ≡ get_or ts j blank) → ((j : ℕ) → j < e → get_or p j 0 ≡ get_or q j 0) → reaches ss p k e ≡ reaches ts q k e
 reaches_local ss ts p q zero e hs hp = refl
 reaches_local ss ts p q (suc k) zero hs hp = refl
 reaches_local ss ts p q (suc k) (suc e) hs hp =

@@ -2,4 +2,3 @@ pub mod Depths
 pub mod Bits
 pub mod Turns
 pub mod Opens
-pub mod Rows

@@ -1,7 +1,7 @@
 -- Which steps a filter may have. A code is a number from 0 to 512; 0 stands for every name outside the vocabulary,
 -- so no step asks for it. Assumes nothing.
-use Rattle.std.specs.Prelude.{ℕ, zero, suc, Bool, true, ◌&&◌, List, [], ◌∷◌, length, None, Option, nat_le}
-use Rattle.std.specs.List.{slice_get}
+use Rattle.std.specs.Prelude.{ℕ, zero, suc, Bool, true, ◌&&◌, List, length, None, Option, nat_le}
+use Rattle.std.specs.List.{list_all, slice_get}
 use Rattle.vocabulary.specs.Limits.{most_names, most_steps}
 use Rattle.filter.specs.declared.steps.Axis.TheVariants.{Child}
 use Rattle.filter.specs.declared.steps.Test.{Test}
@@ -14,8 +14,7 @@ is_test Any = true
 is_test (Code c) = nat_le 1 c && nat_le c most_names
 
 abbrev pub are_tests : List Step → Bool
-are_tests [] = true
-are_tests (s ∷ ss) = is_test s.test && are_tests ss
+are_tests ss = list_all (λ s. is_test s.test) ss
 
 -- the steps are a filter's: one to eight, with tests that a filter may hold
 abbrev pub is_filter : List Step → Bool

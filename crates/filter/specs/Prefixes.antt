@@ -1,7 +1,7 @@
 -- The prefixes of a filter: its first step, its first two, and so on to the whole. Two prefixes are the same if all
 -- axes and tests agree. Assumes nothing.
-use Rattle.std.specs.Prelude.{ℕ, suc, Bool, true, false, cond, ◌&&◌, ◌||◌, List, [], ◌∷◌, map, ◌==◌}
-use Rattle.std.specs.List.{flat_map}
+use Rattle.std.specs.Prelude.{ℕ, suc, Bool, true, false, cond, ◌&&◌, List, [], ◌∷◌, map, ◌==◌}
+use Rattle.std.specs.List.{flat_map, list_any}
 use Rattle.filter.specs.declared.steps.Axis.{Axis}
 use Rattle.filter.specs.declared.steps.Axis.TheVariants.{Child, Descendant}
 use Rattle.filter.specs.declared.steps.Test.{Test}
@@ -30,14 +30,10 @@ same_steps [] (t ∷ ts) = false
 same_steps (s ∷ ss) [] = false
 same_steps (s ∷ ss) (t ∷ ts) = (same_axis s.axis t.axis && same_test s.test t.test) && same_steps ss ts
 
-abbrev pub among : List Step → List (List Step) → Bool
-among p [] = false
-among p (q ∷ qs) = same_steps p q || among p qs
-
 -- how many different lists of steps there are
 abbrev pub different : List (List Step) → ℕ
 different [] = 0
-different (p ∷ ps) = cond (among p ps) (different ps) (suc (different ps))
+different (p ∷ ps) = cond (list_any (same_steps p) ps) (different ps) (suc (different ps))
 
 -- how many different prefixes the filters have
 abbrev pub prefix_count : List (List Step) → ℕ

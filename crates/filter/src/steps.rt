@@ -6,20 +6,23 @@ ghost use Rattle.filter.specs.Filters.{is_test};
 use vocabulary::MOST_NAMES;
 
 // How a step goes on from the step before it: `/` to a child, `//` to any element below.
-#[derive(Clone, Copy, Debug, PartialEq, Eq)]
+#[derive(Clone, Copy, Debug, Default, PartialEq, Eq)]
 pub enum Axis {
+    #[default]
     Child,
     Descendant,
 }
 
 // What a step asks of an element's code: nothing, or that it is this code.
-#[derive(Clone, Copy, Debug, PartialEq, Eq)]
+#[derive(Clone, Copy, Debug, Default, PartialEq, Eq)]
 pub enum Test {
+    #[default]
     Any,
     Code(u16),
 }
 
-#[derive(Clone, Copy, Debug, PartialEq, Eq)]
+// The default is the step of a fresh filter, `/*`.
+#[derive(Clone, Copy, Debug, Default, PartialEq, Eq)]
 pub struct Step {
     pub axis: Axis,
     pub test: Test,
@@ -42,7 +45,7 @@ impl Test {
     {
         match self {
             Test::Any => true,
-            Test::Code(code) => 1 <= code && code as usize <= MOST_NAMES,
+            Test::Code(code) => (1..=MOST_NAMES).contains(&usize::from(code)),
         }
     }
 }

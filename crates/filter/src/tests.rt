@@ -21,10 +21,7 @@ const G: Step = Step {
 };
 
 fn made(steps: &[Step]) -> Result<Filter, Fail> {
-    match Filter::from_steps(steps) {
-        Some(filter) => Ok(filter),
-        None => Err(Fail::new("refused")),
-    }
+    Filter::from_steps(steps).ok_or_else(|| Fail::new("refused"))
 }
 
 #[test]

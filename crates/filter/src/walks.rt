@@ -1,10 +1,11 @@
 // One filter along the open elements of a message.
-ghost use Rattle.std.specs.Prelude.{◌≡◌, ℕ, suc, ◌<◌, ◌≤◌, length, slice_index};
-ghost use Rattle.vocabulary.specs.Limits.{most_open, most_steps};
-ghost use Rattle.filter.specs.Embedding.{reaches};
-ghost use Rattle.filter.specs.Masks.{column};
+ghost use Rattle.std.specs.Prelude.{◌≡◌, length};
+ghost use Rattle.vocabulary.specs.Limits.{most_steps};
+ghost use Rattle.rows.specs.Rows.{items_of};
+ghost use Rattle.filter.specs.Masks.{Columns};
 
 use super::filters::Filter;
+use rows::Row;
 use vocabulary::{MOST_OPEN, MOST_STEPS};
 
 pub mod acts;
@@ -13,11 +14,9 @@ pub mod acts;
 #[derive(Drop)]
 pub struct Walk {
     filter: Filter,
+    // Beside the filter's steps and not in one row with them: the contracts speak of the filter as a whole.
     masks: [u32; MOST_STEPS],
-    path: [u16; MOST_OPEN],
-    depth: usize,
-    ghost deep: { depth ≤ most_open },
+    path: Row<u16, MOST_OPEN>,
     ghost eight: { length masks ≡ most_steps },
-    ghost wide: { length path ≡ most_open },
-    ghost kept: { ((k : ℕ) → k < filter.count → slice_index masks k ≡ column (reaches filter.steps path (suc k)) depth) },
+    ghost kept: { Columns (items_of filter.steps) (items_of path) masks (length (items_of path)) },
 }

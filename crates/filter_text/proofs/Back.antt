@@ -1,7 +1,7 @@
 -- The text of steps is read back. Assumes nothing.
 use Rattle.std.proofs.Common.{◌≡◌, ℕ, zero, suc, ◌+◌, ◌<◌, ◌≤◌, Bool, true, false, cond, List, [], ◌∷◌, ◌++◌, length, drop, is_some, Some, Ok, Err, unwrap_or, sym, refl, ap, ◌∙◌, subst, ⊎_elim, append_assoc, append-nil, arith}
 use Rattle.std.proofs.lemmas.List.{take_at, drop_at}
-use Rattle.std.proofs.lemmas.Bool.{cond-true, cond-false, ne_eqb, le-ltb, cases_Bool, both_ways, and_from, and_parts, and_left, and_right, le-leb, lt-leb, leb-true}
+use Rattle.std.proofs.lemmas.Bool.{cond-true, cond-false, ne_eqb, le-ltb, cases_Bool, both_ways, and_from, and_parts, le-leb, leb-true}
 use Rattle.std.specs.List.{prefix_len}
 use Rattle.vocabulary.specs.declared.faults.Question.TheVariants.{FilterSize}
 use Rattle.vocabulary.specs.Faults.{fault}
@@ -152,13 +152,6 @@ reading names each once text ss = (there, here)
         let some = is.some in
         let few = is.few in
         ap (read_steps names) is.same ∙ sized names (text_of names ss) (omega arith) (omega arith) ∙ back names each once ss most_steps [] 0 is.few known
-
--- a text of no bytes, or of too many
-pub empty : (names : Names) (text : List ℕ) → length text ≡ 0 → Err (fault FilterSize 0) ≡ read_steps names text
-empty names text e = sym (cond-false _ _ _ (and_left _ _ (lt-leb 1 (length text) (omega arith))))
-
-pub oversized : (names : Names) (text : List ℕ) → most_text < length text → Err (fault FilterSize 0) ≡ read_steps names text
-oversized names text e = sym (cond-false _ _ _ (and_right _ _ (lt-leb (length text) most_text e)))
 
 -- the steps that were read are a filter's
 pub reads_filter : (names : Names) → EachName names → NoTwo names → length names ≤ most_names → (text : List ℕ) (ss : List Step) → read_steps names text ≡ Ok ss → is_filter ss ≡ true

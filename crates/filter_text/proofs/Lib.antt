@@ -1,7 +1,4 @@
-pub mod Cuts
 pub mod Turns
 pub mod Words
 pub mod Forth
 pub mod Back
-pub mod Buffers
-pub mod Lengths

@@ -1,5 +1,5 @@
 -- The texts of tests, and the names of a vocabulary as the words of filter text. Assumes nothing.
-use Rattle.std.proofs.Common.{◌≡◌, ℕ, ◌+◌, ◌*◌, ◌≤◌, Bool, true, false, cond, eqb, leb, List, [], ◌∷◌, length, is_some, IfErr, Some, None, Ok, Err, Option, Result, unwrap_or, sym, refl, ap, ◌∙◌, subst, arith, length-append}
+use Rattle.std.proofs.Common.{◌≡◌, ℕ, ◌+◌, ◌*◌, ◌≤◌, Bool, true, false, cond, eqb, leb, List, [], ◌∷◌, length, is_some, Some, None, Option, unwrap_or, sym, refl, ap, ◌∙◌, subst, arith, length-append}
 use Rattle.std.proofs.lemmas.Option.{slice_get-get_or}
 use Rattle.std.proofs.lemmas.Bool.{and_parts, and_from, cond-true, eqb-true, leb-true, le-leb, false≢true}
 use Rattle.std.specs.List.{AllByRecursion as All}
@@ -106,8 +106,3 @@ module _ (names : Names) where
       let lows = rest.0 in
       let highs = rest.1 in
       (omega arith, omega arith)
-
--- what holds of every fault holds where one was told
-pub refused_by : {X Y : Type 0} (r : Result X Y) (P : Y → Type 0) → ((y : Y) → P y) → IfErr r P
-refused_by (Ok x) P h = tt
-refused_by (Err y) P h = h y

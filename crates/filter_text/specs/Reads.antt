@@ -1,5 +1,5 @@
 -- Reading filter text, step by step, with places. Assumes nothing.
-use Rattle.std.specs.Prelude.{◌≡◌, ℕ, zero, suc, ◌+◌, ◌-◌, ◌≤◌, cond, List, [], ◌∷◌, ◌++◌, length, take, drop, Some, None, Ok, Err, Option, Result, ◌==◌, nat_lt}
+use Rattle.std.specs.Prelude.{◌≡◌, ℕ, zero, suc, ◌+◌, ◌-◌, cond, List, [], ◌∷◌, ◌++◌, length, take, drop, Some, None, Ok, Err, Option, Result, ◌==◌, nat_lt}
 use Rattle.vocabulary.specs.declared.faults.Fault.{Fault}
 use Rattle.vocabulary.specs.declared.faults.Question.TheVariants.{FilterSize, TooManySteps, StepNoSlash, StepNoTest, StepNameLong, StepNameUnknown}
 use Rattle.vocabulary.specs.Faults.{fault}
@@ -69,18 +69,3 @@ read_steps names text = cond (between 1 most_text (length text)) (read_from name
 abbrev pub Reading : Type 0
 Reading = (names : List (List ℕ)) → EachName names → NoTwo names → (text : List ℕ) (ss : List Step) →
     (read_steps names text ≡ Ok ss → IsText names text ss) × (IsText names text ss → read_steps names text ≡ Ok ss)
-
--- accepted, or the fault
-abbrev pub verdict : Result (List Step) Fault → Result (Unit {0}) Fault
-verdict (Ok ss) = Ok tt
-verdict (Err f) = Err f
-
--- the steps that were read, or those from before where there is a fault
-abbrev pub steps_after : Result (List Step) Fault → List Step → List Step
-steps_after (Ok ss) before = ss
-steps_after (Err f) before = before
-
--- a row with the steps of the whole text, and how many there are; or the first fault
-abbrev pub RowRead : List (List ℕ) → List ℕ → Result (List Step × ℕ) Fault → Type 0
-RowRead names text (Ok x) = (read_from names most_steps [] 0 text ≡ Ok (take x.1 x.0)) × (x.1 ≤ most_steps) × (length x.0 ≡ most_steps)
-RowRead names text (Err f) = read_from names most_steps [] 0 text ≡ Err f

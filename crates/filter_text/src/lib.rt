@@ -5,7 +5,7 @@
 pub mod reading;
 pub mod writing;
 
-pub use reading::read_filter;
+pub use reading::{parse_filter, read_filter};
 pub use writing::write_filter;
 
 #[cfg(test)]

@@ -37,7 +37,7 @@ fn refusals(rt: HostRuntime) -> Result<(), Fail> {
     for (text, question, place) in cases {
         assert_eq!(rt;
             read_filter(text, &vocabulary, &mut filter),
-            Err(Fault { question, place })
+            Err(question.at(place))
         );
         assert_eq!(rt;
             filter.steps(),
@@ -71,10 +71,7 @@ fn longest(rt: HostRuntime) -> Result<(), Fail> {
     text.push(b'/')?;
     assert_eq!(rt;
         read_filter(text.as_slice(), &vocabulary, &mut filter),
-        Err(Fault {
-            question: Question::FilterSize,
-            place: 0,
-        })
+        Err(Question::FilterSize.at(0))
     );
     Ok(())
 }
@@ -85,10 +82,7 @@ fn written(rt: HostRuntime) -> Result<(), Fail> {
     vocabulary.read(b"D\nG\nS\n")?;
     let mut filter = Filter::new();
     read_filter(b"/D//*/S", &vocabulary, &mut filter)?;
-    let short = Fault {
-        question: Question::BufferShort,
-        place: 0,
-    };
+    let short = Question::BufferShort.at(0);
     let cases: [(usize, Result<usize, Fault>, &[u8]); 4] = [
         (0, Err(short), b"yyyyyyyyy"),
         (6, Err(short), b"yyyyyyyyy"),
@@ -111,31 +105,21 @@ fn written(rt: HostRuntime) -> Result<(), Fail> {
 fn unknown_code(rt: HostRuntime) -> Result<(), Fail> {
     let mut vocabulary = Vocabulary::new();
     vocabulary.read(b"D\nG\nS\n")?;
-    for (code, answer) in [
-        (3, Ok(4)),
-        (
-            4,
-            Err(Fault {
-                question: Question::CodeUnknown,
-                place: 2,
-            }),
-        ),
-    ] {
+    for (code, answer) in [(3, Ok(4)), (4, Err(Question::CodeUnknown.at(2)))] {
         let any = Step {
             axis: Axis::Child,
             test: Test::Any,
         };
         let mut buffer = *b"yyyy";
-        match Filter::from_steps(&[
+        let steps = [
             any,
             Step {
                 axis: Axis::Child,
                 test: Test::Code(code),
             },
-        ]) {
-            Some(filter) => assert_eq!(rt; write_filter(&filter, &vocabulary, &mut buffer), answer),
-            None => return Err(Fail::new("refused")),
-        }
+        ];
+        let filter = Filter::from_steps(&steps).ok_or_else(|| Fail::new("refused"))?;
+        assert_eq!(rt; write_filter(&filter, &vocabulary, &mut buffer), answer);
         assert_eq!(rt; &buffer, if answer.is_ok() { b"/*/S" } else { b"yyyy" });
     }
     Ok(())

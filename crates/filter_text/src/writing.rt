@@ -38,13 +38,10 @@ fn text_len(steps: &[Step], vocabulary: &Vocabulary) -> Result<usize, Fault>
 {
     let mut len = 0;
     for (i, step) in steps.iter().enumerate() {
-        match test_text(step.test, vocabulary) {
-            Some(text) => len += axis_text(step.axis).len() + text.len(),
-            None => return Err(Fault {
-                question: Question::CodeUnknown,
-                place: i as u32 + 1,
-            }),
-        }
+        // it fits: a filter has at most eight steps
+        let unknown = Question::CodeUnknown.at(i as u32 + 1);
+        let text = test_text(step.test, vocabulary).ok_or(unknown)?;
+        len += axis_text(step.axis).len() + text.len();
     }
     Ok(len)
 }
@@ -55,10 +52,9 @@ fn put(text: &[u8], buffer: &mut [u8], place: usize) -> usize
     ensures answer { result ≡ place + length text.now }
     ensures buffer { take (place + length text.now) buffer.new ≡ take place buffer.old ++ text.now }
 {
-    for i in 0..text.len() {
-        buffer[place + i] = text[i];
-    }
-    place + text.len()
+    let end = place + text.len();
+    buffer[place..end].copy_from_slice(text);
+    end
 }
 
 // Copies the text of the steps to the front of the buffer.
@@ -71,9 +67,8 @@ fn put_steps(steps: &[Step], vocabulary: &Vocabulary, buffer: &mut [u8]) -> usiz
     let mut place = 0;
     for step in steps {
         place = put(axis_text(step.axis), buffer, place);
-        if let Some(text) = test_text(step.test, vocabulary) {
-            place = put(text, buffer, place);
-        }
+        let text = test_text(step.test, vocabulary).unwrap();
+        place = put(text, buffer, place);
     }
     place
 }
@@ -83,9 +78,7 @@ fn clear_from(buffer: &mut [u8], place: usize)
     requires inside { place ≤ length buffer.old }
     ensures buffer { buffer.new ≡ take place buffer.old ++ replicate (length buffer.old - place) 0 }
 {
-    for i in place..buffer.len() {
-        buffer[i] = 0;
-    }
+    buffer[place..].fill(0);
 }
 
 // Writes the filter's text and then zeros into the buffer, and answers the text's length; a refusal writes nothing.
@@ -101,10 +94,7 @@ pub fn write_filter(
     let steps = filter.steps();
     let len = text_len(steps, vocabulary)?;
     if len > buffer.len() {
-        return Err(Fault {
-            question: Question::BufferShort,
-            place: 0,
-        });
+        return Err(Question::BufferShort.at(0));
     }
     let place = put_steps(steps, vocabulary, buffer);
     clear_from(buffer, place);

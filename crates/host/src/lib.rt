@@ -4,8 +4,7 @@
 ghost use Rattle.std.specs.Prelude.{◌≡◌};
 ghost use Rattle.host.specs.Hosts.{asked, host_answer};
 
-use filter::Filter;
-use filter_text::read_filter;
+use filter_text::parse_filter;
 use message::hit;
 use vocabulary::{Fault, Vocabulary};
 use xml::TextReader;
@@ -14,10 +13,8 @@ use xml::TextReader;
 fn ask(vocabulary: &[u8], filter: &[u8], message: &[u8]) -> Result<bool, Fault>
     ensures answer { result ≡ asked vocabulary.now filter.now message.now }
 {
-    let mut names = Vocabulary::new();
-    names.read(vocabulary)?;
-    let mut steps = Filter::new();
-    read_filter(filter, &names, &mut steps)?;
+    let names = Vocabulary::try_from(vocabulary)?;
+    let steps = parse_filter(filter, &names)?;
     let mut source = TextReader::new(message, &names);
     hit(&steps, &mut source)
 }
@@ -29,6 +26,6 @@ pub fn lozghemi_hit(vocabulary: &[u8], filter: &[u8], message: &[u8]) -> u64
     match ask(vocabulary, filter, message) {
         Ok(true) => 1,
         Ok(false) => 0,
-        Err(fault) => (fault.question.number() as u64) * 4_294_967_296 + fault.place as u64,
+        Err(fault) => u64::from(u8::from(fault.question)) * 4_294_967_296 + u64::from(fault.place),
     }
 }

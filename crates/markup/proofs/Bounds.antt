@@ -116,7 +116,7 @@ waits : (b : ℕ) → StaysIn (wait b)
 waits b = either starting start_kind (white b) _ _ refl (either starting start_kind (eqb b 61) _ _ refl tt)
 
 no_side : {X : Type 0} → ◌≡◌ {A = Bool} false true → X
-no_side e = let z : ◌≡◌ {A = ℕ} 0 1 = cc in absurd (omega arith)
+no_side e = absurd cc
 
 stays : (s : State) (b : ℕ) → starting s ≡ true → StaysIn (after s b)
 stays at_open b h = no_side h

@@ -47,12 +47,12 @@ named_end (b ∷ s) h =
 -- with no name an end tag does not end
 pub unnamed_end : (s : List ℕ) (k : Kind) (c : ℕ) → name_size s ≡ 0 → scan_from end_first s ≡ ends k c → ⊥
 unfolding name_start
-unnamed_end [] k c h e = let z : ◌≡◌ {A = ℕ} 0 1 = cc in omega arith
+unnamed_end [] k c h e = cc
 unnamed_end (b ∷ s) k c h e = by_start (is_name_start b) h e
   where
     by_start : (p : Bool) → cond p (1 + prefix_len is_name_byte s) 0 ≡ 0 → scan_by (cond p (on end_name) misfit) (λ t. scan_from t s) ≡ ends k c → ⊥
     by_start true h e = omega arith
-    by_start false h e = let z : ◌≡◌ {A = ℕ} 0 1 = cc in omega arith
+    by_start false h e = cc
 
 pub slashed : (s : List ℕ) → scan_from at_open (47 ∷ s) ≡ shifted 1 (scan_from end_first s)
 unfolding name_start

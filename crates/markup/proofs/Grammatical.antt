@@ -12,7 +12,7 @@ use Rattle.markup.proofs.Only.{only_documents}
 -- what is refused for its length does not close
 short : (p : Bool) (e : Ending) (f : Fault) → cond p e (faulted f) ≡ closed → (p ≡ true) × (e ≡ closed)
 short true e f h = (refl, h)
-short false e f h = let z : ◌≡◌ {A = ℕ} 0 1 = cc in absurd (omega arith)
+short false e f h = absurd cc
 
 all_close : (voc : List (List ℕ)) (d : Document) → element_depth d.root ≤ most_open → length (document_bytes d) ≤ most_text
     → (text_ending voc (document_bytes d) ≡ closed) × (text_events voc (document_bytes d) ≡ document_events voc d)

@@ -12,3 +12,4 @@ pub mod Scanning
 pub mod Telling
 pub mod Fronts
 pub mod Bounds
+pub mod Marks

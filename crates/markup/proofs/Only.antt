@@ -133,12 +133,12 @@ module _ (voc : List (List ℕ)) where
   at_end : (ns : List (List ℕ)) (o : Bool) (f : Fault) → cond o closed (faulted f) ≡ closed → Pending ns o []
   at_end [] true f h = behind_root Misc.nothing
   at_end (n ∷ ns) true f h = odd
-  at_end ns false f h = let z : ◌≡◌ {A = ℕ} 0 1 = cc in absurd (omega arith)
+  at_end ns false f h = absurd cc
 
   comes : (bs : List ℕ) (s : Status) (n : ℕ) → ending_from voc s n bs ≡ closed → Comes s bs
   comes [] (between st) n h = at_end st.names st.over _ h
-  comes [] (behind st p s acc) n h = let z : ◌≡◌ {A = ℕ} 0 1 = cc in absurd (omega arith)
-  comes [] (stopped f) n h = let z : ◌≡◌ {A = ℕ} 0 1 = cc in absurd (omega arith)
+  comes [] (behind st p s acc) n h = absurd cc
+  comes [] (stopped f) n h = absurd cc
   comes (b ∷ bs) (between st) n h =
       cond_both (eqb b open_angle) _ (texted st n b) (λ (x : Step). Comes x.next bs → Pending st.names st.over (b ∷ bs))
       (λ e c. subst (λ x. Pending st.names st.over (x ∷ bs)) (sym (eqb-true b open_angle e)) (c refl))

@@ -1,5 +1,6 @@
 -- The machine over several bytes, and the reading of a message over a whole piece of markup. Assumes nothing.
-use Rattle.std.proofs.Common.{◌≡◌, ℕ, ◌+◌, Bool, List, [], ◌∷◌, ◌++◌, length, sym, refl, ap, ◌∙◌, append_assoc, arith}
+use Rattle.std.proofs.Common.{◌≡◌, ℕ, ◌+◌, Bool, List, [], ◌∷◌, ◌++◌, length, sym, refl, ◌∙◌, append_assoc, arith}
+use Rattle.std.proofs.lemmas.List.{append-nil}
 use Rattle.message.specs.declared.events.Event.{Event}
 use Rattle.message.specs.Sources.{Ending}
 use Rattle.markup.specs.Bytes.{open_angle}
@@ -23,10 +24,6 @@ pub stuck : (bs : List ℕ) → final misfit bs ≡ misfit
 stuck [] = refl
 stuck (b ∷ bs) = stuck bs
 
-pub append_nil : {A : Type 0} (xs : List A) → xs ++ [] ≡ xs
-append_nil [] = refl
-append_nil (x ∷ xs) = ap (λ y. x ∷ y) (append_nil xs)
-
 -- the events and the ending
 abbrev pub Reading : Type 0
 Reading = List Event × Ending
@@ -47,7 +44,7 @@ with ns o = record { names = ns; over = o }
 module _ (voc : List (List ℕ)) (st : Stand) (p : ℕ) (k : Kind) (t : List ℕ) where
   moves : (v : Move) (m acc : List ℕ) (n : ℕ) → final v m ≡ ended k
       → then voc (m ++ t) (moved voc st p n acc v) (n + 1) ≡ then voc t (acted voc st p k (name_in k (acc ++ m))) (n + 1 + length m)
-  moves (on s) [] acc n h = let z : ◌≡◌ {A = ℕ} 0 1 = cc in absurd (omega arith)
+  moves (on s) [] acc n h = absurd cc
   moves (on s) (b ∷ m) acc n h =
       let a : (acc ++ b ∷ []) ++ m ≡ acc ++ b ∷ m = append_assoc acc (b ∷ []) m in
       let c : n + 1 + 1 + length m ≡ n + 1 + length (b ∷ m) = omega arith in
@@ -55,16 +52,16 @@ module _ (voc : List (List ℕ)) (st : Stand) (p : ℕ) (k : Kind) (t : List ℕ
   moves (ended j) [] acc n h =
       let a : j ≡ k = cc in
       let c : n + 1 ≡ n + 1 + length {A = ℕ} [] = omega arith in
-      λ i. then voc t (acted voc st p (a i) (name_in (a i) (sym (append_nil acc) i))) (c i)
-  moves (ended j) (b ∷ m) acc n h = let z : ◌≡◌ {A = ℕ} 0 1 = cc (stuck m) in absurd (omega arith)
-  moves misplaced [] acc n h = let z : ◌≡◌ {A = ℕ} 0 1 = cc in absurd (omega arith)
-  moves misplaced (b ∷ m) acc n h = let z : ◌≡◌ {A = ℕ} 0 1 = cc (stuck m) in absurd (omega arith)
-  moves misfit m acc n h = let z : ◌≡◌ {A = ℕ} 0 1 = cc (stuck m) in absurd (omega arith)
+      λ i. then voc t (acted voc st p (a i) (name_in (a i) (sym (append-nil acc) i))) (c i)
+  moves (ended j) (b ∷ m) acc n h = absurd (cc (stuck m))
+  moves misplaced [] acc n h = absurd cc
+  moves misplaced (b ∷ m) acc n h = absurd (cc (stuck m))
+  moves misfit m acc n h = absurd (cc (stuck m))
 
 -- markup that ends is acted on
 pub marks : (voc : List (List ℕ)) (st : Stand) (n : ℕ) (k : Kind) (m t : List ℕ) → final (on at_open) m ≡ ended k
     → reading voc (between st) n (open_angle ∷ (m ++ t)) ≡ then voc t (acted voc st n k (name_in k m)) (n + (1 + length m))
-marks voc st n k [] t h = let z : ◌≡◌ {A = ℕ} 0 1 = cc in absurd (omega arith)
+marks voc st n k [] t h = absurd cc
 marks voc st n k (b ∷ m) t h =
     let c : n + 1 + 1 + length m ≡ n + (1 + length (b ∷ m)) = omega arith in
     moves voc st n k t (after at_open b) m (b ∷ []) (n + 1) h ∙ (λ i. then voc t (acted voc st n k (name_in k (b ∷ m))) (c i))

@@ -4,9 +4,11 @@ use Rattle.std.specs.List.{prefix_len}
 use Rattle.std.proofs.lemmas.Bool.{cases_eq, cond-true, cond-false, eq-eqb, ne_eqb}
 use Rattle.vocabulary.specs.Names.{is_name_byte}
 use Rattle.markup.specs.Bytes.{name_byte, white, comment_end, instruction_end}
+use Rattle.markup.specs.declared.tags.Tag.{Tag}
+use Rattle.markup.specs.declared.tags.Tag.TheVariants as T
 use Rattle.markup.specs.Grammar.{opening, closing, comment, instruction}
-use Rattle.markup.specs.Tags.{State, in_name, end_name, in_remark, one_dash, two_dashes, in_order, asking, Move, on, Scan, cut_short, ends, begins_none, misfits, later, scan_by, scan_from}
-use Rattle.markup.specs.Runs.{run_of, shifted, first_from, found_by}
+use Rattle.markup.specs.Tags.{State, in_name, end_name, in_remark, one_dash, two_dashes, in_order, asking, Move, Scan, cut_short, ends, begins_none, misfits, later, scan_by, scan_from}
+use Rattle.markup.specs.Runs.{standing, shifted, first_from, found_by}
 
 pub shifted_later : (n : ℕ) (x : Scan) → shifted n (later x) ≡ shifted (n + 1) x
 shifted_later n cut_short = refl
@@ -28,17 +30,6 @@ shifted_twice m n (misfits c) = ap misfits (omega arith)
 
 pub later_shifted : (x : Scan) → later x ≡ shifted 1 x
 later_shifted x = sym (shifted_none (later x)) ∙ shifted_later 0 x
-
-pub run_on : (s : State) (bs : List ℕ) → run_of (on s) bs ≡ scan_from s bs
-run_on s [] = refl
-run_on s (b ∷ bs) = refl
-
--- one byte of a run
-pub turn_on : (n : ℕ) (m : Move) (s : State) (bs : List ℕ) → m ≡ on s → shifted n (scan_by m (λ t. scan_from t bs)) ≡ shifted (n + 1) (run_of m bs)
-turn_on n m s bs e =
-    ap (λ x. shifted n (scan_by x (λ t. scan_from t bs))) e
-    ∙ shifted_later n (scan_from s bs)
-    ∙ sym (ap (shifted (n + 1)) (ap (λ x. run_of x bs) e ∙ run_on s bs))
 
 -- the bytes of a name
 by_name : (s : State) (bs : List ℕ) (b : ℕ) (p : Bool) (x : Scan) → scan_from s bs ≡ shifted (prefix_len is_name_byte bs) (scan_from s (drop (prefix_len is_name_byte bs) bs)) → (p ≡ true → x ≡ later (scan_from s bs)) → (p ≡ false → x ≡ scan_from s (b ∷ bs)) → x ≡ shifted (cond p (1 + prefix_len is_name_byte bs) 0) (scan_from s (drop (cond p (1 + prefix_len is_name_byte bs) 0) (b ∷ bs)))
@@ -172,12 +163,12 @@ pub order_scan : (s : List ℕ) → scan_from in_order s ≡ found_by instructio
 order_scan s = sym (shifted_none _) ∙ (orders s 0).0
 
 -- `>` behind a name
-pub opens : (s : List ℕ) → 0 < length s → get_or s 0 0 ≡ 62 → ends opening 1 ≡ scan_from in_name s
+pub opens : (t : Tag) (s : List ℕ) → t ≡ T.Name → 0 < length s → get_or s 0 0 ≡ 62 → ends opening 1 ≡ scan_from (standing t) s
 unfolding name_byte white
-opens [] h e = absurd (omega arith)
-opens (b ∷ s) h e = ap (λ x. scan_from in_name (x ∷ s)) (sym e)
+opens t [] is h e = absurd (omega arith)
+opens t (b ∷ s) is h e = sym (λ i. scan_from (standing (is i)) (e i ∷ s))
 
-pub closes : (s : List ℕ) → 0 < length s → get_or s 0 0 ≡ 62 → ends closing 1 ≡ scan_from end_name s
+pub closes : (t : Tag) (s : List ℕ) → t ≡ T.EndName → 0 < length s → get_or s 0 0 ≡ 62 → ends closing 1 ≡ scan_from (standing t) s
 unfolding name_byte white
-closes [] h e = absurd (omega arith)
-closes (b ∷ s) h e = ap (λ x. scan_from end_name (x ∷ s)) (sym e)
+closes t [] is h e = absurd (omega arith)
+closes t (b ∷ s) is h e = sym (λ i. scan_from (standing (is i)) (e i ∷ s))

@@ -1,5 +1,6 @@
 -- What the bytes of elements, content and documents tell. Assumes nothing.
 use Rattle.std.proofs.Common.{◌≡◌, ℕ, ◌+◌, ◌<◌, ◌≤◌, Bool, true, false, cond, leb, List, [], ◌∷◌, ◌++◌, length, sym, refl, ap, ◌∙◌, append_assoc, arith, length-append}
+use Rattle.std.proofs.lemmas.List.{append-nil}
 use Rattle.std.specs.Str.{bytes_eq}
 use Rattle.std.proofs.lemmas.Bool.{lt-leb, cond-true, cond-false}
 use Rattle.std.proofs.lemmas.Slice.Eq.{bytes_eq-Decides}
@@ -12,7 +13,7 @@ use Rattle.markup.specs.Bytes.{open_angle}
 use Rattle.markup.specs.Grammar.{Kind, closing}
 use Rattle.markup.specs.Documents.{Element, emptied, filled, Content, byte, child, Misc, blank, Document, element_bytes, content_bytes, misc_bytes, document_bytes, code_or_0, element_events, content_events, document_events, element_depth, content_depth}
 use Rattle.markup.specs.Readings.{Stand, Status, between, silent, refuse, left, acted, beginning}
-use Rattle.markup.proofs.Runs.{Reading, reading, add, then, with, marks, append_nil}
+use Rattle.markup.proofs.Runs.{Reading, reading, add, then, with, marks}
 use Rattle.markup.proofs.Bytes.{Markup, starts, ends, remarks, orders, white_less}
 use Rattle.markup.proofs.Forth.{accepts, names}
 
@@ -110,6 +111,6 @@ module _ (voc : List (List ℕ)) where
       let z : 0 + length a ≡ length a = omega arith in
       misc_told d.before false 0 (b ++ c) ∙ ap (λ x. reading voc beginning x (b ++ c)) z
       ∙ element_told d.root [] (length a) c (omega arith)
-      ∙ ap (λ x. add (document_events voc d) (reading voc (left []) (length a + length b) x)) (sym (append_nil c))
+      ∙ ap (λ x. add (document_events voc d) (reading voc (left []) (length a + length b) x)) (sym (append-nil c))
       ∙ ap (add (document_events voc d)) (misc_told d.after true (length a + length b) [])
-      ∙ (λ i. (append_nil (document_events voc d) i, closed))
+      ∙ (λ i. (append-nil (document_events voc d) i, closed))

@@ -46,8 +46,8 @@ fault_rest n d o f = record {
   nested = tt;
   coded = tt;
   none = λ _. refl;
-  some = λ _ h. let z : ◌≡◌ {A = ℕ} 0 1 = cc in absurd (omega arith);
-  shut = λ h. let z : ◌≡◌ {A = ℕ} 0 1 = cc in absurd (omega arith);
+  some = λ _ h. absurd cc;
+  shut = λ h. absurd cc;
   inside = λ k _ l. absurd (omega arith);
 }
 
@@ -62,7 +62,7 @@ ended_rest n d true f t = record {
   nested = tt;
   coded = tt;
   none = λ _. refl;
-  some = λ h. let z : ◌≡◌ {A = ℕ} 0 1 = cc in absurd (omega arith);
+  some = λ h. absurd cc;
   shut = λ _. t refl;
   inside = λ k _ l. absurd (omega arith);
 }
@@ -81,7 +81,7 @@ starts {n} {d} {c} {p} {o} {es} {e} f s h q =
       few = omega arith;
       nested = (s, r.nested);
       coded = (h, r.coded);
-      none = λ t. let z : ◌≡◌ {A = Bool} true false = cc in let y : ◌≡◌ {A = ℕ} 0 1 = cc in absurd (omega arith);
+      none = λ t. absurd cc;
       some = λ _ _. omega arith;
       shut = r.shut;
       inside = start_inside d c p es r.inside;
@@ -103,7 +103,7 @@ ends {d = d} {p = p} {es = es} f z r =
       few = omega arith;
       nested = (omega arith, r.nested);
       coded = r.coded;
-      none = λ t. let z : ◌≡◌ {A = Bool} true false = cc in let y : ◌≡◌ {A = ℕ} 0 1 = cc in absurd (omega arith);
+      none = λ t. absurd cc;
       some = λ _ _. omega arith;
       shut = r.shut;
       inside = λ k _ l. end_inside d p es (λ h. r.none (z h)) r.inside k l;
@@ -115,7 +115,7 @@ Tidy st = st.over ≡ true → length st.names ≡ 0
 
 empty_tidy : (ns : List (List ℕ)) → is_empty ns ≡ true → length ns ≡ 0
 empty_tidy [] h = refl
-empty_tidy (m ∷ ms) h = let z : ◌≡◌ {A = ℕ} 0 1 = cc in absurd (omega arith)
+empty_tidy (m ∷ ms) h = absurd cc
 
 empty_none : (ns : List (List ℕ)) → length ns ≡ 0 → is_empty ns ≡ true
 empty_none [] h = refl
@@ -164,7 +164,7 @@ module _ (voc : List (List ℕ)) (fits : length voc ≤ most_names) (p : ℕ) (b
   acts : (st : Stand) (a : ℕ) (k : Kind) (n : List ℕ) → Tidy st → Told voc p bs (length bs + 2) st (acted voc st a k n)
   acts st a opening n t =
       starteds st a _ _ (λ o l.
-      let r = ih (record { names = n ∷ st.names; over = false }) (λ h. let z : ◌≡◌ {A = ℕ} 0 1 = cc in absurd (omega arith)) in
+      let r = ih (record { names = n ∷ st.names; over = false }) (λ h. absurd cc) in
       more (omega arith) (starts o l (codes n) r))
   acts st a empty n t =
       starteds st a _ _ (λ o l. more (omega arith) (starts o l (codes n) (ends refl (empty_none st.names) (lefts st.names))))
@@ -197,7 +197,7 @@ mutual
 
 sound_by : (b : Bool) (es : List Event) (e : Ending) (f : Fault) → (b ≡ true → Wellformed es e) → Wellformed (cond b es []) (cond b e (faulted f))
 sound_by true es e f h = h refl
-sound_by false es e f h = record { few = omega arith; nested = tt; coded = tt; whole = λ k. let z : ◌≡◌ {A = ℕ} 0 1 = cc in absurd (omega arith) }
+sound_by false es e f h = record { few = omega arith; nested = tt; coded = tt; whole = λ k. absurd cc }
 
 pub sound : (voc : List (List ℕ)) (m : List ℕ) → length voc ≤ most_names → Wellformed (text_events voc m) (text_ending voc m)
 sound voc m f =

@@ -1,62 +1,56 @@
 -- How the code's machine stands, what a run of it answers, and where fixed bytes are first found. Assumes nothing.
-use Rattle.std.specs.Prelude.{ℕ, ◌+◌, Bool, cond, not, List, [], ◌∷◌, Some, None, Option, ◌==◌}
-use Rattle.markup.specs.Bytes.{open_angle, begins}
+use Rattle.std.specs.Prelude.{ℕ, ◌+◌, Bool, cond, not, List, [], ◌∷◌, Some, None, Option, Ok, Err, Result, ◌==◌}
+use Rattle.markup.specs.Bytes.{open_angle, apostrophe, quotation, begins, comment_end, instruction_end}
 use Rattle.markup.specs.Grammar.{Kind, opening, empty, closing}
-use Rattle.markup.specs.Tags.{in_name, in_gap, in_word, in_wait, at_value, in_value, at_ended, at_slash, end_first, end_name, end_gap, Move, on, ended, misplaced, misfit, after, Scan, cut_short, ends, begins_none, misfits, scan_by, scan_from}
-use Rattle.markup.specs.declared.tags.Mode.{Mode}
-use Rattle.markup.specs.declared.tags.Mode.TheVariants as M
-use Rattle.markup.specs.declared.tags.Scanned.{Scanned}
-use Rattle.markup.specs.declared.tags.Scanned.TheVariants as S
+use Rattle.markup.specs.Tags.{State, in_name, in_gap, in_word, in_wait, at_value, in_value, at_ended, at_slash, end_first, end_name, end_gap, Move, on, ended, misfit, Scan, cut_short, ends, begins_none, misfits}
+use Rattle.markup.specs.declared.tags.Ended.{Ended}
+use Rattle.markup.specs.declared.tags.Misread.{Misread}
+use Rattle.markup.specs.declared.tags.Misread.TheVariants as R
+use Rattle.markup.specs.declared.tags.Outcome.{Outcome}
+use Rattle.markup.specs.declared.tags.Outcome.TheVariants as O
 use Rattle.markup.specs.declared.tags.Tag.{Tag}
+use Rattle.markup.specs.declared.tags.Tag.TheVariants as T
+use Rattle.markup.specs.declared.tags.TagKind.{TagKind}
+use Rattle.markup.specs.declared.tags.TagKind.TheVariants as K
+use Rattle.markup.specs.declared.texts.Mark.{Mark}
+use Rattle.markup.specs.declared.texts.Mark.TheVariants as E
 
--- a mode of the code is the move that led to it
-abbrev pub move_of : Mode → Move
-move_of M.Name = on in_name
-move_of M.Gap = on in_gap
-move_of M.Word = on in_word
-move_of M.Wait = on in_wait
-move_of M.Value = on at_value
-move_of M.InSingle = on (in_value 39)
-move_of M.InDouble = on (in_value 34)
-move_of M.Ended = on at_ended
-move_of M.Slash = on at_slash
-move_of M.EndFirst = on end_first
-move_of M.EndName = on end_name
-move_of M.EndGap = on end_gap
-move_of M.Opening = ended opening
-move_of M.Empty = ended empty
-move_of M.Closing = ended closing
-move_of M.Wrong = misfit
+-- where the code's machine stands
+abbrev pub standing : Tag → State
+standing T.Name = in_name
+standing T.Gap = in_gap
+standing T.Word = in_word
+standing T.Wait = in_wait
+standing T.Value = at_value
+standing T.InSingle = in_value apostrophe
+standing T.InDouble = in_value quotation
+standing T.Ended = at_ended
+standing T.Slash = at_slash
+standing T.EndFirst = end_first
+standing T.EndName = end_name
+standing T.EndGap = end_gap
 
-abbrev pub standing : Tag → Move
-standing t = move_of t.mode
+abbrev pub kind_of : TagKind → Kind
+kind_of K.Opening = opening
+kind_of K.Empty = empty
+kind_of K.Closing = closing
 
--- one byte more; behind the end of a tag none fits
-abbrev pub steps : Move → ℕ → Move
-steps (on s) b = after s b
-steps (ended k) b = misfit
-steps misplaced b = misfit
-steps misfit b = misfit
-
--- how the bytes go on
-abbrev pub run_of : Move → List ℕ → Scan
-run_of m [] = cut_short
-run_of m (b ∷ bs) = scan_by (steps m b) (λ t. scan_from t bs)
+-- what a byte comes to there
+abbrev pub move_of : Outcome → Move
+move_of (O.GoesOn t) = on (standing t)
+move_of (O.Ends k) = ended (kind_of k)
+move_of O.Misfit = misfit
 
 -- the answer of a run
-abbrev pub scan_of : Scanned → Scan
-scan_of S.CutShort = cut_short
-scan_of (S.Opening n) = ends opening n
-scan_of (S.Empty n) = ends empty n
-scan_of (S.Closing n) = ends closing n
-scan_of (S.Misfit n) = misfits n
+abbrev pub scan_of : Result Ended Misread → Scan
+scan_of (Ok e) = ends (kind_of e.kind) e.len
+scan_of (Err R.CutShort) = cut_short
+scan_of (Err (R.Misfit n)) = misfits n
 
--- what a move comes to at the byte after the first n
-abbrev pub came_out : Move → ℕ → Option Scan
-came_out (on s) n = None
-came_out (ended k) n = Some (ends k (n + 1))
-came_out misplaced n = Some begins_none
-came_out misfit n = Some (misfits n)
+-- what is looked for at the end of a comment or an instruction
+abbrev pub mark_bytes : Mark → List ℕ
+mark_bytes E.Comment = comment_end
+mark_bytes E.Instruction = instruction_end
 
 -- with n bytes before
 abbrev pub shifted : ℕ → Scan → Scan

@@ -4,5 +4,5 @@
 pub mod tags;
 pub mod texts;
 
-pub use tags::{Class, Scanned, Tag, class_of, end_scan, start_scan};
-pub use texts::{comment_end, instruction_end, is_white, text_len};
+pub use tags::{Class, Ended, Misread, Outcome, Tag, TagKind, class_of};
+pub use texts::{Mark, is_white, text_len};

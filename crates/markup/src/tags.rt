@@ -1,9 +1,8 @@
 // Start and end tags, read by a machine from behind the first byte of the name.
-ghost use Rattle.std.specs.Prelude.{◌≡◌, ◌+◌, ◌^◌, ◌<◌, length};
-ghost use Rattle.std.specs.Option.{option_map};
+ghost use Rattle.std.specs.Prelude.{◌≡◌};
 ghost use Rattle.markup.specs.Classes.{class_of, table};
-ghost use Rattle.markup.specs.Runs.{came_out, run_of, scan_of, standing, steps};
-ghost use Rattle.markup.specs.Tags.{in_name, end_first, end_name, on, scan_from};
+ghost use Rattle.markup.specs.Runs.{move_of, scan_of, standing};
+ghost use Rattle.markup.specs.Tags.{after, scan_from};
 
 // What a byte is to a tag.
 #[derive(Clone, Copy, Debug, PartialEq, Eq)]
@@ -20,9 +19,9 @@ pub enum Class {
     Other,
 }
 
-// Where the reading stands inside a tag, how the tag has ended, or that a byte did not fit.
+// Where the reading stands inside a tag.
 #[derive(Clone, Copy, Debug, PartialEq, Eq)]
-pub(crate) enum Mode {
+pub enum Tag {
     Name,
     Gap,
     Word,
@@ -35,26 +34,36 @@ pub(crate) enum Mode {
     EndFirst,
     EndName,
     EndGap,
+}
+
+// What a tag is, by its end.
+#[derive(Clone, Copy, Debug, PartialEq, Eq)]
+pub enum TagKind {
     Opening,
     Empty,
     Closing,
-    Wrong,
 }
 
-// How a tag goes on: it is cut short by the text's end, it ends after so many bytes, or the byte after so many does
-// not fit.
+// What a byte of a tag comes to: the tag goes on, it ends, or the byte does not fit.
 #[derive(Clone, Copy, Debug, PartialEq, Eq)]
-pub enum Scanned {
-    CutShort,
-    Opening(usize),
-    Empty(usize),
-    Closing(usize),
-    Misfit(usize),
+pub enum Outcome {
+    GoesOn(Tag),
+    Ends(TagKind),
+    Misfit,
 }
 
-#[derive(Clone, Copy)]
-pub struct Tag {
-    mode: Mode,
+// A tag that has ended after so many bytes.
+#[derive(Clone, Copy, Debug, PartialEq, Eq)]
+pub struct Ended {
+    pub kind: TagKind,
+    pub len: usize,
+}
+
+// Why a tag does not end: the text ends first, or the byte after so many does not fit.
+#[derive(Clone, Copy, Debug, PartialEq, Eq)]
+pub enum Misread {
+    CutShort,
+    Misfit(usize),
 }
 
 pub fn class_of(byte: u8) -> Class
@@ -75,116 +84,74 @@ pub fn class_of(byte: u8) -> Class
 }
 
 impl Tag {
-    // Inside the name of a start tag.
-    pub fn in_name() -> Tag
-        ensures answer { standing result ≡ on in_name }
+    fn step_by(self, class: Class) -> Outcome
+        ensures table { result ≡ table self class }
     {
-        Tag { mode: Mode::Name }
-    }
-
-    // Behind the `/` of an end tag.
-    pub fn end_first() -> Tag
-        ensures answer { standing result ≡ on end_first }
-    {
-        Tag {
-            mode: Mode::EndFirst,
-        }
-    }
-
-    // Inside the name of an end tag.
-    pub fn end_name() -> Tag
-        ensures answer { standing result ≡ on end_name }
-    {
-        Tag {
-            mode: Mode::EndName,
+        match (self, class) {
+            (Tag::Name, Class::Start | Class::Inner) => Outcome::GoesOn(Tag::Name),
+            (Tag::Name | Tag::Gap | Tag::Ended, Class::White) => Outcome::GoesOn(Tag::Gap),
+            (Tag::Name | Tag::Gap | Tag::Ended, Class::Slash) => Outcome::GoesOn(Tag::Slash),
+            (Tag::Name | Tag::Gap | Tag::Ended, Class::Close) => Outcome::Ends(TagKind::Opening),
+            (Tag::Gap, Class::Start) => Outcome::GoesOn(Tag::Word),
+            (Tag::Word, Class::Start | Class::Inner) => Outcome::GoesOn(Tag::Word),
+            (Tag::Word | Tag::Wait, Class::White) => Outcome::GoesOn(Tag::Wait),
+            (Tag::Word | Tag::Wait, Class::Equals) => Outcome::GoesOn(Tag::Value),
+            (Tag::Value, Class::White) => Outcome::GoesOn(Tag::Value),
+            (Tag::Value, Class::Single) => Outcome::GoesOn(Tag::InSingle),
+            (Tag::Value, Class::Double) => Outcome::GoesOn(Tag::InDouble),
+            (Tag::InSingle, Class::Single) => Outcome::GoesOn(Tag::Ended),
+            (Tag::InDouble, Class::Double) => Outcome::GoesOn(Tag::Ended),
+            (Tag::InSingle | Tag::InDouble, Class::Open) => Outcome::Misfit,
+            (Tag::InSingle | Tag::InDouble, _) => Outcome::GoesOn(self),
+            (Tag::Slash, Class::Close) => Outcome::Ends(TagKind::Empty),
+            (Tag::EndFirst, Class::Start) => Outcome::GoesOn(Tag::EndName),
+            (Tag::EndName, Class::Start | Class::Inner) => Outcome::GoesOn(Tag::EndName),
+            (Tag::EndName | Tag::EndGap, Class::White) => Outcome::GoesOn(Tag::EndGap),
+            (Tag::EndName | Tag::EndGap, Class::Close) => Outcome::Ends(TagKind::Closing),
+            _ => Outcome::Misfit,
         }
     }
 
     // Takes one byte.
-    pub fn step(&mut self, byte: u8)
-        ensures table { self.new.mode ≡ table self.old.mode (class_of byte) }
-        ensures after { standing self.new ≡ steps (standing self.old) byte }
+    #[tactic(auto, using(crate::proofs::Bridge::row_after))]
+    pub fn step(self, byte: u8) -> Outcome
+        ensures table { result ≡ table self (class_of byte) }
+        ensures after { move_of result ≡ after (standing self) byte }
     {
-        self.mode = match (self.mode, class_of(byte)) {
-            (Mode::Name, Class::Start | Class::Inner) => Mode::Name,
-            (Mode::Name | Mode::Gap | Mode::Ended, Class::White) => Mode::Gap,
-            (Mode::Name | Mode::Gap | Mode::Ended, Class::Slash) => Mode::Slash,
-            (Mode::Name | Mode::Gap | Mode::Ended, Class::Close) => Mode::Opening,
-            (Mode::Gap, Class::Start) => Mode::Word,
-            (Mode::Word, Class::Start | Class::Inner) => Mode::Word,
-            (Mode::Word | Mode::Wait, Class::White) => Mode::Wait,
-            (Mode::Word | Mode::Wait, Class::Equals) => Mode::Value,
-            (Mode::Value, Class::White) => Mode::Value,
-            (Mode::Value, Class::Single) => Mode::InSingle,
-            (Mode::Value, Class::Double) => Mode::InDouble,
-            (Mode::InSingle, Class::Single) => Mode::Ended,
-            (Mode::InSingle, Class::Open) => Mode::Wrong,
-            (Mode::InSingle, _) => Mode::InSingle,
-            (Mode::InDouble, Class::Double) => Mode::Ended,
-            (Mode::InDouble, Class::Open) => Mode::Wrong,
-            (Mode::InDouble, _) => Mode::InDouble,
-            (Mode::Slash, Class::Close) => Mode::Empty,
-            (Mode::EndFirst, Class::Start) => Mode::EndName,
-            (Mode::EndName, Class::Start | Class::Inner) => Mode::EndName,
-            (Mode::EndName | Mode::EndGap, Class::White) => Mode::EndGap,
-            (Mode::EndName | Mode::EndGap, Class::Close) => Mode::Closing,
-            (Mode::Opening | Mode::Empty | Mode::Closing | Mode::Wrong, _) => Mode::Wrong,
-            _ => Mode::Wrong,
-        };
+        self.step_by(class_of(byte))
     }
 
-    // How the tag has come out at the byte after the first `n`, none if it goes on.
-    fn outcome(&self, n: usize) -> Option<Scanned>
-        requires room { n + 1 < 2 ^ 64 }
-        ensures answer { option_map scan_of result ≡ came_out (standing self.now) n }
+    // Reads on to the tag's end, byte by byte.
+    fn read_on(self, rest: &[u8]) -> Result<Ended, Misread>
+        ensures answer { scan_of result ≡ scan_from (standing self) rest.now }
     {
-        match self.mode {
-            Mode::Opening => Some(Scanned::Opening(n + 1)),
-            Mode::Empty => Some(Scanned::Empty(n + 1)),
-            Mode::Closing => Some(Scanned::Closing(n + 1)),
-            Mode::Wrong => Some(Scanned::Misfit(n)),
-            _ => None,
-        }
-    }
-
-    // Reads on to the end of the tag, the first byte that does not fit, or the text's end.
-    pub fn run(&mut self, rest: &[u8]) -> Scanned
-        ensures answer { scan_of result ≡ run_of (standing self.old) rest.now }
-    {
-        let mut n = 0;
-        while n < rest.len() {
-            self.step(rest[n]);
-            if let Some(scanned) = self.outcome(n) {
-                return scanned;
+        let mut tag = self;
+        for (n, byte) in rest.iter().enumerate() {
+            match tag.step(*byte) {
+                Outcome::GoesOn(next) => tag = next,
+                Outcome::Ends(kind) => return Ok(Ended { kind, len: n + 1 }),
+                Outcome::Misfit => return Err(Misread::Misfit(n)),
             }
-            n += 1;
         }
-        Scanned::CutShort
+        Err(Misread::CutShort)
     }
-}
 
-// What comes behind the name of a start tag.
-pub fn start_scan(rest: &[u8]) -> Scanned
-    ensures answer { scan_of result ≡ scan_from in_name rest.now }
-{
-    match rest {
-        [b'>', ..] => Scanned::Opening(1),
-        _ => {
-            let mut tag = Tag::in_name();
-            tag.run(rest)
-        }
-    }
-}
-
-// What comes behind the name of an end tag.
-pub fn end_scan(rest: &[u8]) -> Scanned
-    ensures answer { scan_of result ≡ scan_from end_name rest.now }
-{
-    match rest {
-        [b'>', ..] => Scanned::Closing(1),
-        _ => {
-            let mut tag = Tag::end_name();
-            tag.run(rest)
+    // Reads on to the tag's end; looks first for a `>` right behind a name. Each caller has a copy that knows its tag.
+    #[inline(always)]
+    #[tactic(auto, using(crate::proofs::Scanning::opens, crate::proofs::Scanning::closes))]
+    pub fn run(self, rest: &[u8]) -> Result<Ended, Misread>
+        ensures answer { scan_of result ≡ scan_from (standing self) rest.now }
+    {
+        match (self, rest) {
+            (Tag::Name, [b'>', ..]) => Ok(Ended {
+                kind: TagKind::Opening,
+                len: 1,
+            }),
+            (Tag::EndName, [b'>', ..]) => Ok(Ended {
+                kind: TagKind::Closing,
+                len: 1,
+            }),
+            _ => self.read_on(rest),
         }
     }
 }

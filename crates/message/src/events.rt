@@ -1,7 +1,7 @@
 // The events of a message, and the interface of what tells them.
-ghost use Rattle.std.specs.Prelude.{◌≡◌, ℕ, List, ◌==◌};
+ghost use Rattle.std.specs.Prelude.{◌≡◌, ℕ, cond, List, ◌==◌};
 ghost use Rattle.message.specs.declared.events.Event.{Event};
-ghost use Rattle.message.specs.Sources.{Ending, told, rest, counted, Wellformed};
+ghost use Rattle.message.specs.Sources.{Ending, closed, faulted, last_told, told, rest, counted, Wellformed};
 
 use vocabulary::Fault;
 
@@ -20,9 +20,6 @@ pub trait Source {
 
     ghost taken: { Self → ℕ };
 
-    // what every fresh source keeps
-    ghost sound: { (s : Self) → taken s ≡ 0 → Wellformed (events s) (ending s) };
-
     // Takes and tells the first event; with none left it tells the ending, `None` where the message is closed, and alters nothing.
     fn next(&mut self) -> Result<Option<Event>, Fault>
         ensures answer { result ≡ told (events self.old) (ending self.old) }
@@ -33,4 +30,14 @@ pub trait Source {
     // Whether no event was taken yet.
     fn is_fresh(&self) -> bool
         ensures answer { result ≡ (taken self.now == 0) };
+
+    // A law: what every fresh source keeps.
+    ghost sound: { (s : Self) → taken s ≡ 0 → Wellformed (events s) (ending s) };
+}
+
+// What a source tells after its last event: the message is closed where its root has ended, and else this fault ends it.
+pub fn conclude(over: bool, unended: Fault) -> Result<Option<Event>, Fault>
+    ensures answer { result ≡ last_told (cond over closed (faulted unended)) }
+{
+    if over { Ok(None) } else { Err(unended) }
 }

@@ -3,7 +3,7 @@ ghost use Rattle.std.specs.Prelude.{◌≡◌, length, IfOk, Decides};
 ghost use Rattle.filter.specs.Walks.{steps_of, path_of};
 ghost use Rattle.message.specs.Answers.{hit_answer, left_after, taken_after};
 ghost use Rattle.message.specs.Elements.{Hits};
-ghost use Rattle.message.specs.Passing.{embeds_at, path_after, walk_answer};
+ghost use Rattle.message.specs.Passing.{embeds_at, path_after};
 ghost use Rattle.message.specs.Settled.{Settled, examples};
 ghost use Rattle.message.specs.Trees.{SelectedIn};
 
@@ -21,24 +21,12 @@ pub fn hit<S: Source>(filter: &Filter, source: &mut S) -> Result<bool, Fault>
     ensures rule { IfOk result (λ b. Decides b (Hits (steps_of filter.now) (S.events source.old))) }
     ensures xpath { IfOk result (λ b. SelectedIn (steps_of filter.now) (S.events source.old) b) }
 {
-    walk_along(filter, source)
-}
-
-// The same, by a walk: it goes on after a hit, since the ending decides.
-fn walk_along<S: Source>(filter: &Filter, source: &mut S) -> Result<bool, Fault>
-    ensures answer { result ≡ walk_answer (steps_of filter.now) (S.taken source.old) (S.events source.old) (S.ending source.old) }
-    ensures left { S.events source.new ≡ left_after (S.taken source.old) (S.events source.old) }
-    ensures ending { S.ending source.new ≡ S.ending source.old }
-    ensures taken { S.taken source.new ≡ taken_after (S.taken source.old) (S.events source.old) }
-{
     if !source.is_fresh() {
-        return Err(Fault {
-            question: Question::SourceNotFresh,
-            place: 0,
-        });
+        return Err(Question::SourceNotFresh.at(0));
     }
     let mut walk = Walk::new(filter);
     let mut found = false;
+    // it goes on after a hit, since the ending decides
     while let Some(event) = source.next()? {
         found |= pass(&mut walk, event);
     }

@@ -5,5 +5,5 @@
 pub mod events;
 pub mod hits;
 
-pub use events::{Event, Source};
+pub use events::{Event, Source, conclude};
 pub use hits::{hit, settled_examples};

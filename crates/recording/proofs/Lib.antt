@@ -1,3 +1,2 @@
 -- The lemmas of this crate. Assumes nothing.
-pub mod Turns
 pub mod Replaying

@@ -4,4 +4,4 @@
 
 pub mod words;
 
-pub use words::{MOST_WORDS, Recording};
+pub use words::{MOST_WORDS, Recording, Word};

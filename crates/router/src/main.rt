@@ -1,20 +1,21 @@
 // The router, as people run it.
 #![tactic(auto)]
 
+mod failures;
 mod words;
 
-use anyhow::anyhow;
+use failures::{Failure, Unheld};
 use filter::Filter;
-use filter_text::read_filter;
+use filter_text::parse_filter;
 use message::hit;
 use recording::Recording;
 use std::process::ExitCode;
-use std::{env, fs};
+use std::{env, fs, io};
 use vocabulary::{Fault, Vocabulary};
 use words::words_in;
 use xml::TextReader;
 
-fn help(rt: &HostRuntime) -> anyhow::Result<ExitCode> {
+fn help(rt: &HostRuntime) -> io::Result<()> {
     println!(rt; "Routes customs messages by standing filters.")?;
     println!(rt; "")?;
     println!(rt; "  router hit VOCABULARY FILTER FILE...   does the filter hit these messages?")?;
@@ -22,120 +23,93 @@ fn help(rt: &HostRuntime) -> anyhow::Result<ExitCode> {
     println!(rt; "")?;
     println!(rt; "VOCABULARY  a file with one name a line, each line ended by a line feed")?;
     println!(rt; "FILTER      the filter itself, as '/D//G/*': steps of / or // and a name or *")?;
-    println!(rt; "FILE        a message: a recording if its name ends in .rec, else XML text")?;
-    Ok(ExitCode::SUCCESS)
-}
-
-// The command `hit`: does this filter hit these messages?
-// Prints one line for each message. A file that holds none is told on standard error, and makes the command fail at its end.
-fn run_hit(rt: &HostRuntime, words: &[String]) -> anyhow::Result<ExitCode> {
-    let [names, text, files @ ..] = words else {
-        return Err(anyhow!("hit wants VOCABULARY FILTER FILE...; router --help tells more"));
-    };
-    if files.is_empty() {
-        return Err(anyhow!("hit wants at least one FILE; router --help tells more"));
-    }
-    let Some(bytes) = read_file(rt, names.as_str())? else {
-        return Ok(ExitCode::FAILURE);
-    };
-    let mut vocabulary = Vocabulary::new();
-    if let Err(fault) = vocabulary.read(bytes.as_slice()) {
-        return refusal(rt, "vocabulary", names.as_str(), fault);
-    }
-    let mut filter = Filter::new();
-    if let Err(fault) = read_filter(text.as_bytes(), &vocabulary, &mut filter) {
-        return refusal(rt, "filter", text.as_str(), fault);
-    }
-    let mut unread = 0usize;
-    for file in files {
-        if !answer(rt, file.as_str(), &filter, &vocabulary)? {
-            unread = unread.saturating_add(1);
-        }
-    }
-    if unread > 0 {
-        eprintln!(rt; "router: {unread} of the files hold no message, see above")?;
-        return Ok(ExitCode::FAILURE);
-    }
-    Ok(ExitCode::SUCCESS)
-}
-
-// Tells what refuses the command. An error would keep only the front of a long name, and lose the reason.
-fn refusal(rt: &HostRuntime, kind: &str, name: &str, fault: Fault) -> anyhow::Result<ExitCode> {
-    eprintln!(rt; "router: {kind} {name}: {fault}")?;
-    Ok(ExitCode::FAILURE)
-}
-
-// The bytes of a file; none where it was told that it cannot be read.
-fn read_file(rt: &HostRuntime, path: &str) -> anyhow::Result<Option<Vec<u8>>> {
-    match fs::read(rt, path) {
-        Ok(bytes) => Ok(Some(bytes)),
-        Err(error) => {
-            eprintln!(rt; "router: {path}: cannot be read: {error}")?;
-            Ok(None)
-        }
-    }
-}
-
-fn is_recording(path: &str) -> bool {
-    match path.as_bytes() {
-        [.., b'.', b'r', b'e', b'c'] => true,
-        _ => false,
-    }
+    println!(rt; "FILE        a message: a recording if its name ends in .rec, else XML text")
 }
 
 // Prints the line of one message.
-fn say(rt: &HostRuntime, path: &str, answer: Result<bool, Fault>) -> anyhow::Result<()> {
+fn say(rt: &HostRuntime, path: &str, answer: Result<bool, Fault>) -> io::Result<()> {
     match answer {
-        Ok(true) => println!(rt; "{path}: hit")?,
-        Ok(false) => println!(rt; "{path}: no hit")?,
-        Err(fault) => println!(rt; "{path}: {fault}")?,
+        Ok(true) => println!(rt; "{path}: hit"),
+        Ok(false) => println!(rt; "{path}: no hit"),
+        Err(fault) => println!(rt; "{path}: {fault}"),
     }
-    Ok(())
 }
 
-// Answers for one file; false where it holds no message.
-fn answer(
+// Whether the filter hits the message of a file.
+fn ask(
     rt: &HostRuntime,
     path: &str,
     filter: &Filter,
     vocabulary: &Vocabulary,
-) -> anyhow::Result<bool> {
-    let bytes = match fs::read(rt, path) {
-        Ok(bytes) => bytes,
-        Err(error) => {
-            eprintln!(rt; "{path}: cannot be read: {error}")?;
-            return Ok(false);
-        }
-    };
-    if !is_recording(path) {
-        let mut source = TextReader::new(bytes.as_slice(), vocabulary);
-        say(rt, path, hit(filter, &mut source))?;
-        return Ok(true);
+) -> Result<Result<bool, Fault>, Unheld> {
+    let bytes = fs::read(rt, path).map_err(Unheld::Unreadable)?;
+    if !path.ends_with(".rec") {
+        return Ok(hit(filter, &mut TextReader::new(bytes.as_slice(), vocabulary)));
     }
-    let len = bytes.len();
-    if len % 2 != 0 {
-        eprintln!(rt; "{path}: is no recording: words are pairs of bytes, and it has {len} bytes")?;
-        return Ok(false);
+    if bytes.len() % 2 != 0 {
+        return Err(Unheld::OddLength(bytes.len()));
     }
     let words = words_in(rt.alloc(), bytes.as_slice())?;
-    let mut source = Recording::new(words.as_slice());
-    say(rt, path, hit(filter, &mut source))?;
-    Ok(true)
+    Ok(hit(filter, &mut Recording::new(words.as_slice())))
 }
 
-fn run(rt: &HostRuntime) -> anyhow::Result<ExitCode> {
-    let mut words = Vec::new(rt.alloc());
-    for word in env::args(rt)?.skip(1) {
-        words.push(word)?;
+// The command `hit`: does this filter hit these messages?
+// Prints one line for each message. A file that holds none is told on standard error, and makes the command fail at its end.
+fn run_hit<'a>(rt: &HostRuntime, words: &'a [String]) -> Result<(), Failure<'a>> {
+    let [names, text, files @ ..] = words else {
+        return Err(Failure::Usage("hit wants VOCABULARY FILTER FILE...; router --help tells more"));
+    };
+    if files.is_empty() {
+        return Err(Failure::Usage("hit wants at least one FILE; router --help tells more"));
     }
-    match words.as_slice() {
-        [] => help(rt),
+    let (names, text) = (names.as_str(), text.as_str());
+    let bytes = fs::read(rt, names).map_err(|error| Failure::Unread(names, error))?;
+    let vocabulary = Vocabulary::try_from(bytes.as_slice()).map_err(|fault| Failure::Refused(
+        "vocabulary",
+        names,
+        fault,
+    ))?;
+    let filter = parse_filter(text.as_bytes(), &vocabulary).map_err(|fault| Failure::Refused(
+        "filter", text, fault,
+    ))?;
+    let mut unheld = 0usize;
+    for file in files {
+        match ask(rt, file.as_str(), &filter, &vocabulary) {
+            Ok(answer) => say(rt, file.as_str(), answer)?,
+            Err(Unheld::Memory(error)) => return Err(Failure::from(error)),
+            Err(reason) => {
+                eprintln!(rt; "{file}: {reason}")?;
+                unheld = unheld.saturating_add(1);
+            }
+        }
+    }
+    if unheld > 0 {
+        return Err(Failure::NoMessage(unheld));
+    }
+    Ok(())
+}
+
+fn command<'a>(rt: &HostRuntime, words: &'a [String]) -> Result<(), Failure<'a>> {
+    match words {
+        [] => help(rt)?,
         [command, rest @ ..] => match command.as_str() {
-            "hit" => run_hit(rt, rest),
-            "--help" | "-h" => help(rt),
-            _ => Err(anyhow!("there is no such command; router --help tells the use")),
+            "hit" => run_hit(rt, rest)?,
+            "--help" | "-h" => help(rt)?,
+            _ => {
+                return Err(Failure::Usage("there is no such command; router --help tells the use"));
+            }
         },
     }
+    Ok(())
+}
+
+fn run(rt: &HostRuntime) -> io::Result<ExitCode> {
+    let words: Vec<String> = env::args(rt)?.skip(1).collect(rt.alloc())?;
+    if let Err(failure) = command(rt, words.as_slice()) {
+        eprintln!(rt; "router: {failure}")?;
+        return Ok(ExitCode::FAILURE);
+    }
+    Ok(ExitCode::SUCCESS)
 }
 
 fn main(rt: HostRuntime) -> ExitCode {

@@ -11,7 +11,7 @@ pub fn words_in(heap: Global, bytes: &[u8]) -> Result<Vec<u16>, AllocError>
     let mut words = Vec::new(heap);
     let mut rest = bytes;
     while let [low, high, after @ ..] = rest {
-        words.push(*low as u16 + 256 * *high as u16)?;
+        words.push(u16::from_le_bytes([*low, *high]))?;
         rest = after;
     }
     Ok(words)

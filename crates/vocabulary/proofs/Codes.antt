@@ -63,8 +63,3 @@ module _ (names : List (List ℕ)) (once : NoTwo names) (s : List ℕ) where
 
   pub is_code : (r : Option ℕ) → r ≡ code_of names s → IsCode names s r
   is_code r e = code_by r (sym e)
-
--- no line has a code past the last
-pub name_past : (names : List (List ℕ)) (k : ℕ) → length names < k → name_of names k ≡ None
-name_past names zero h = absurd (omega arith)
-name_past names (suc j) h = slice_get_past names j (omega arith)

@@ -1,6 +1,5 @@
-pub mod Cuts
 pub mod Buckets
-pub mod Letters
-pub mod Lines
+pub mod Entries
 pub mod Codes
 pub mod Spelling
+pub mod Counts

@@ -1,7 +1,8 @@
 -- Reading a vocabulary is right about what the text spells. Assumes nothing.
-use Rattle.std.proofs.Common.{◌≡◌, ℕ, suc, ◌+◌, ◌-◌, ◌<◌, ◌≤◌, Bool, true, false, cond, eqb, ltb, leb, List, [], ◌∷◌, ◌++◌, length, get_or, take, drop, is_some, Some, None, Ok, Err, Option, Result, sym, refl, ap, ◌∙◌, subst, ⊎_elim, append_assoc, one-add, arith}
-use Rattle.std.proofs.lemmas.List.{append-nil, get_or_append_left, get_or_at, get_or_push, flat_map_more, length-append, length_push, nil_from_length, take-append-drop, length-take-le, drop-drop, drop_more, take_all}
-use Rattle.std.proofs.lemmas.Bool.{and_parts, and_from, cases_Bool, cases_eq, cond-true, cond-false, eqb-true, le-leb, leb-true, lt-leb, and_left, and_right, ltb-true, lt-ltb, both_ways, false≢true, ne_eqb, not-true, not-false}
+use Rattle.std.proofs.Common.{◌≡◌, ℕ, suc, ◌+◌, ◌<◌, ◌≤◌, Bool, true, false, cond, eqb, ltb, leb, List, [], ◌∷◌, ◌++◌, length, get_or, take, drop, is_some, Some, None, Ok, Err, Option, Result, sym, refl, ap, ◌∙◌, subst, ⊎_elim, append_assoc, one-add, arith}
+use Rattle.std.proofs.lemmas.List.{append-nil, get_or_append_left, get_or_at, get_or_push, flat_map_more, length-append, length_push, nil_from_length, take-append-drop, length-take-le, drop_more, take_all}
+use Rattle.std.proofs.lemmas.List.Sums.{prefix_len_stops}
+use Rattle.std.proofs.lemmas.Bool.{and_parts, and_from, cases_Bool, cases_eq, cond-true, cond-false, eqb-true, le-leb, leb-true, ltb-true, lt-ltb, both_ways, false≢true, ne_eqb, not-true, not-false}
 use Rattle.std.specs.List.{flat_map, prefix_len, AllByRecursion as All}
 use Rattle.vocabulary.specs.declared.faults.Fault.{Fault}
 use Rattle.vocabulary.specs.declared.faults.Question.TheVariants.{LineNotEnded, LineNotName, NameTwice, TooManyNames, VocabularySize}
@@ -9,7 +10,6 @@ use Rattle.vocabulary.specs.Faults.{fault}
 use Rattle.vocabulary.specs.Limits.{most_names, most_name_bytes}
 use Rattle.vocabulary.specs.Names.{between, is_name_start, is_name_byte, name_size, is_short_name, code_of}
 use Rattle.vocabulary.specs.Vocabularies.{most_bytes, feed, line, EachName, NoTwo, Spells, chain, admitted, read_lines, read_names, Accepts, is_in_line}
-use Rattle.vocabulary.specs.Tables.{cut}
 use Rattle.vocabulary.proofs.Codes.{code_none, code_absent}
 
 abbrev Names : Type 0
@@ -179,14 +179,6 @@ leading_front : (p : ℕ → Bool) (xs : List ℕ) → All (λ b. p b ≡ true) 
 leading_front p [] = tt
 leading_front p (x ∷ xs) = front_by p (p x) x xs refl (leading_front p xs)
 
-stop_by : (p : ℕ → Bool) (t : Bool) (x : ℕ) (xs : List ℕ) → p x ≡ t → (prefix_len p xs < length xs → p (get_or xs (prefix_len p xs) 0) ≡ false) → cond t (1 + prefix_len p xs) 0 < suc (length xs) → p (get_or (x ∷ xs) (cond t (1 + prefix_len p xs) 0) 0) ≡ false
-stop_by p true x xs e back h = ap (λ k. p (get_or (x ∷ xs) k 0)) (one-add (prefix_len p xs)) ∙ back (omega arith)
-stop_by p false x xs e back h = e
-
-leading_stop : (p : ℕ → Bool) (xs : List ℕ) → prefix_len p xs < length xs → p (get_or xs (prefix_len p xs) 0) ≡ false
-leading_stop p [] h = absurd (omega arith)
-leading_stop p (x ∷ xs) h = stop_by p (p x) x xs refl (leading_stop p xs) h
-
 unfed_line : (w : List ℕ) → All (λ b. is_in_line b ≡ true) w → Unfed w
 unfed_line [] h = tt
 unfed_line (b ∷ w) h = (not-true (eqb b feed) h.0, unfed_line w h.1)
@@ -203,42 +195,20 @@ module _ (names : Names) (n : ℕ) (s : List ℕ) (k : ℕ) (is : k ≡ prefix_l
   pub line_shut : k < length s → read_lines names n [] s ≡ chain (admitted names n (take k s)) (λ _. read_lines (names ++ take k s ∷ []) (n + (k + 1)) [] (drop (k + 1) s))
   line_shut h =
       let len = length-take-le k s (omega arith) in
-      let stop : get_or s k 0 ≡ feed = eqb-true _ _ (not-false (eqb (get_or s k 0) feed) (subst (λ m. is_in_line (get_or s m 0) ≡ false) (sym is) (leading_stop is_in_line s (subst (λ m. m < length s) is h)))) in
+      let stop : get_or s k 0 ≡ feed = eqb-true _ _ (not-false (eqb (get_or s k 0) feed) (subst (λ m. is_in_line (get_or s m 0) ≡ false) (sym is) (prefix_len_stops is_in_line s 0 (subst (λ m. m < length s) is h)))) in
       ap (read_lines names n []) (sym (take-append-drop k s)) ∙ scan names n [] (take k s) (drop k s) before
       ∙ ap (read_lines names n (take k s)) (drop_more s k 0 h ∙ ap (λ b. b ∷ drop (k + 1) s) stop)
       ∙ ap (λ m. chain (admitted names n (take k s)) (λ _. read_lines (names ++ take k s ∷ []) (n + (m + 1)) [] (drop (k + 1) s))) len
 
--- one line of a text, at the place n
-module _ (text : List ℕ) (names : Names) (n k : ℕ) (is : k ≡ prefix_len is_in_line (drop n text)) where
-  cut_is : cut text (record { start = n; end = n + k; next = 0 }) ≡ take k (drop n text)
-  cut_is = let e : n + k - n ≡ k = omega arith in ap (λ m. take m (drop n text)) e
+  pub line_refused : (f : Fault) → k < length s → admitted names n (take k s) ≡ Err f → read_lines names n [] s ≡ Err f
+  line_refused f h e = line_shut h ∙ ap (λ r. chain r (λ _. read_lines (names ++ take k s ∷ []) (n + (k + 1)) [] (drop (k + 1) s))) e
 
-  pub line_refused : (f : Fault) → k < length (drop n text) → admitted names n (cut text (record { start = n; end = n + k; next = 0 })) ≡ Err f → read_lines names n [] (drop n text) ≡ Err f
-  line_refused f h e =
-      line_shut names n (drop n text) k is h ∙ ap (λ r. chain r (λ _. read_lines (names ++ take k (drop n text) ∷ []) (n + (k + 1)) [] (drop (k + 1) (drop n text)))) (ap (admitted names n) (sym cut_is) ∙ e)
+  pub line_taken : (u : Unit {0}) → k < length s → admitted names n (take k s) ≡ Ok u → read_lines names n [] s ≡ read_lines (names ++ take k s ∷ []) (n + (k + 1)) [] (drop (k + 1) s)
+  line_taken u h e = line_shut h ∙ ap (λ r. chain r (λ _. read_lines (names ++ take k s ∷ []) (n + (k + 1)) [] (drop (k + 1) s))) e
 
-  pub line_taken : (u : Unit {0}) → k < length (drop n text) → admitted names n (cut text (record { start = n; end = n + k; next = 0 })) ≡ Ok u → (after : Names) → after ≡ names ++ cut text (record { start = n; end = n + k; next = 0 }) ∷ [] → read_lines names n [] (drop n text) ≡ read_lines after (n + k + 1) [] (drop (n + k + 1) text)
-  line_taken u h e after same =
-      let next : n + (k + 1) ≡ n + k + 1 = omega arith in
-      line_shut names n (drop n text) k is h ∙ ap (λ r. chain r (λ _. read_lines (names ++ take k (drop n text) ∷ []) (n + (k + 1)) [] (drop (k + 1) (drop n text)))) (ap (admitted names n) (sym cut_is) ∙ e)
-      ∙ ap (read_lines (names ++ take k (drop n text) ∷ []) (n + (k + 1)) []) (drop-drop (k + 1) n text)
-      ∙ ap (λ m. read_lines (names ++ take k (drop n text) ∷ []) m [] (drop m text)) next
-      ∙ ap (λ w. read_lines (names ++ w ∷ []) (n + k + 1) [] (drop (n + k + 1) text)) (sym cut_is)
-      ∙ ap (λ ns. read_lines ns (n + k + 1) [] (drop (n + k + 1) text)) (sym same)
-
-  -- a name that was admitted is short, and finds room
-  pub line_short : (u : Unit {0}) → k < length (drop n text) → admitted names n (cut text (record { start = n; end = n + k; next = 0 })) ≡ Ok u → (k ≤ most_name_bytes) × (length names < most_names)
-  line_short u h e =
-      let w = cut text (record { start = n; end = n + k; next = 0 }) in
-      let t = admitted_by (is_short_name w) (ltb (length names) most_names) (is_some (code_of names w)) n u e in
-      let short = (and_parts (between 1 most_name_bytes (length w)) (eqb (name_size w) (length w)) t.0).0 in
-      let low = leb-true (length w) most_name_bytes (and_parts (leb 1 (length w)) (leb (length w) most_name_bytes) short).1 in
-      let len : length w ≡ k = ap length cut_is ∙ length-take-le k (drop n text) (omega arith) in
-      (omega arith, ltb-true _ _ t.1)
-
--- a text of no bytes, or of too many
-pub empty : (text : List ℕ) → length text ≡ 0 → Err (fault VocabularySize 0) ≡ read_names text
-empty text e = sym (cond-false _ _ _ (and_left _ _ (lt-leb 1 (length text) (omega arith))))
-
-pub oversized : (text : List ℕ) → most_bytes < length text → Err (fault VocabularySize 0) ≡ read_names text
-oversized text e = sym (cond-false _ _ _ (and_right _ _ (lt-leb (length text) most_bytes e)))
+-- a name that was admitted is short, and finds room
+pub line_short : (names : Names) (n : ℕ) (w : List ℕ) (u : Unit {0}) → admitted names n w ≡ Ok u → (length w ≤ most_name_bytes) × (length names < most_names)
+line_short names n w u e =
+    let t = admitted_by (is_short_name w) (ltb (length names) most_names) (is_some (code_of names w)) n u e in
+    let short = (and_parts (between 1 most_name_bytes (length w)) (eqb (name_size w) (length w)) t.0).0 in
+    (leb-true (length w) most_name_bytes (and_parts (leb 1 (length w)) (leb (length w) most_name_bytes) short).1, ltb-true _ _ t.1)

@@ -6,14 +6,9 @@ use Rattle.vocabulary.specs.declared.vocabularies.Vocabulary.{Vocabulary}
 
 -- its names, line by line
 abbrev pub names_of : Vocabulary → List (List ℕ)
-names_of v = names_in v.text.now v.table
+names_of v = names_in v.table
 
 -- accepted, or the fault
-abbrev pub verdict : Result (List (List ℕ)) Fault → Result (Unit {0}) Fault
-verdict (Ok names) = Ok tt
+abbrev pub verdict : {X : Type 0} → Result X Fault → Result (Unit {0}) Fault
+verdict (Ok x) = Ok tt
 verdict (Err f) = Err f
-
--- the names that were read, or those from before where there is a fault
-abbrev pub names_after : Result (List (List ℕ)) Fault → List (List ℕ) → List (List ℕ)
-names_after (Ok names) before = names
-names_after (Err f) before = before

@@ -1,5 +1,6 @@
 -- Which bytes are a vocabulary, and what the first fault is of those that are none. Assumes nothing.
-use Rattle.std.specs.Prelude.{◌≡◌, ℕ, ◌+◌, ◌<◌, ◌≤◌, Bool, true, cond, not, List, [], ◌∷◌, ◌++◌, length, drop, is_some, Ok, Err, Result, ◌==◌, ◌≢◌, nat_lt, slice_index_or}
+use Rattle.std.specs.Prelude.{◌≡◌, ℕ, ◌+◌, ◌-◌, ◌<◌, ◌≤◌, Bool, true, cond, not, List, [], ◌∷◌, ◌++◌, length, is_some, Ok, Err, Result, ◌==◌, ◌≢◌, nat_lt, slice_index_or}
+use Rattle.std.specs.Borrow.{Bor}
 use Rattle.std.specs.List.{flat_map}
 use Rattle.vocabulary.specs.declared.faults.Fault.{Fault}
 use Rattle.vocabulary.specs.declared.faults.Question.TheVariants.{VocabularySize, LineNotEnded, LineNotName, TooManyNames, NameTwice}
@@ -65,10 +66,11 @@ read_names text = cond (between 1 most_bytes (length text)) (read_lines [] 0 [] 
 abbrev pub Accepts : Type 0
 Accepts = (text : List ℕ) (names : List (List ℕ)) → (read_names text ≡ Ok names → Spells text names) × (Spells text names → read_names text ≡ Ok names)
 
--- what a reading of one line, at the place n of the text, leaves of the whole: the names and the place to go on from, or its fault
-abbrev pub LineRead : List ℕ → ℕ → List (List ℕ) → List (List ℕ) → Result ℕ Fault → Type 0
-LineRead text n before after (Ok m) = (read_lines before n [] (drop n text) ≡ read_lines after m [] (drop m text)) × (n < m) × (m ≤ length text)
-LineRead text n before after (Err f) = read_lines before n [] (drop n text) ≡ Err f
+-- what a reading of the first line of s, which stands at the place n, leaves of the whole: the names and the bytes to go on
+-- from, or its fault
+abbrev pub LineRead : List ℕ → ℕ → List (List ℕ) → List (List ℕ) → Result (Bor (List ℕ)) Fault → Type 0
+LineRead s n before after (Ok rest) = (read_lines before n [] s ≡ read_lines after (n + (length s - length rest.now)) [] rest.now) × (length rest.now < length s)
+LineRead s n before after (Err f) = read_lines before n [] s ≡ Err f
 
 -- a byte that does not end a line
 abbrev pub is_in_line : ℕ → Bool

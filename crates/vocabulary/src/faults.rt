@@ -1,7 +1,8 @@
 // Faults: which question said no, and where.
 ghost use Rattle.std.specs.Prelude.{◌≡◌};
-ghost use Rattle.vocabulary.specs.Faults.{number_of};
+ghost use Rattle.vocabulary.specs.Faults.{fault, number_of};
 
+use std::error::Error;
 use std::fmt;
 
 // The questions that can be answered with no. Each has its number, which people are told.
@@ -46,14 +47,31 @@ pub struct Fault {
 }
 
 impl Question {
-    pub fn number(self) -> u8
-        ensures answer { result ≡ number_of self }
+    // This question's no at a place.
+    pub fn at(self, place: u32) -> Fault
+        ensures answer { result ≡ fault self place }
     {
-        self as u8
+        Fault {
+            question: self,
+            place,
+        }
     }
+}
 
-    fn reason(self) -> &'static str {
-        match self {
+// The number that people are told.
+impl From<Question> for u8 {
+    ghost from_gives = { λ question number. number ≡ number_of question };
+
+    fn from(question: Question) -> u8
+        ensures answer { result ≡ number_of question }
+    {
+        question as u8
+    }
+}
+
+impl fmt::Display for Question {
+    fn fmt<W: fmt::Write>(&self, f: &mut fmt::Formatter<W>) -> fmt::Result {
+        f.write_str(match self {
             Question::VocabularySize => "the vocabulary is not 1 to 16384 bytes long",
             Question::LineNotEnded => "a line of the vocabulary is not ended by a line feed",
             Question::LineNotName => "a line of the vocabulary is not a name of 1 to 32 bytes",
@@ -67,12 +85,6 @@ impl Question {
             Question::StepNameUnknown => "a name in the filter is not in the vocabulary",
             Question::CodeUnknown => "a step's code is not in the vocabulary",
             Question::BufferShort => "the buffer is too short for the filter's text",
-            _ => self.text_reason(),
-        }
-    }
-
-    fn text_reason(self) -> &'static str {
-        match self {
             Question::TextSize => "the message is longer than 1048576 bytes",
             Question::ByteOutsideRoot => "neither white space nor markup outside the root element",
             Question::NoMarkup => "no tag, comment or instruction begins at this <",
@@ -82,12 +94,6 @@ impl Question {
             Question::TagTooDeep => "a start tag with 32 elements open",
             Question::EndTagUnmet => "the end tag does not meet the innermost open element",
             Question::TextNotEnded => "the text ends before the root element has ended",
-            _ => self.recording_reason(),
-        }
-    }
-
-    fn recording_reason(self) -> &'static str {
-        match self {
             Question::RecordingSize => "the recording has more than 1048576 words",
             Question::WordTooGreat => "a word is above 513",
             Question::WordAfterRoot => "a start after the root has ended",
@@ -95,16 +101,17 @@ impl Question {
             Question::WordNoneOpen => "an end with no element open",
             Question::RecordingNotEnded => "the recording ends before its root has ended",
             Question::SourceNotFresh => "the source was read from before",
-            _ => "refused",
-        }
+        })
     }
 }
 
+impl Error for Fault {}
+
 impl fmt::Display for Fault {
     fn fmt<W: fmt::Write>(&self, f: &mut fmt::Formatter<W>) -> fmt::Result {
-        let number = self.question.number();
+        let number = u8::from(self.question);
         let place = self.place;
-        let reason = self.question.reason();
-        write!(f, "refused {number} at {place}: {reason}")
+        let question = self.question;
+        write!(f, "refused {number} at {place}: {question}")
     }
 }

@@ -6,42 +6,30 @@ ghost use Rattle.vocabulary.specs.Names.{is_letter, is_name_start, is_name_byte,
 
 use super::limits::MOST_NAME_BYTES;
 
-// A letter; a small one has the bit 32, a capital one is the same without it.
 fn is_letter(byte: u8) -> bool
     ensures answer { result ≡ is_letter byte }
 {
-    let small = byte | 32;
-    b'a' <= small && small <= b'z'
+    byte.is_ascii_alphabetic()
 }
 
 pub fn is_name_start(byte: u8) -> bool
     ensures answer { result ≡ is_name_start byte }
 {
-    match byte {
-        b'a'..=b'z' | b'A'..=b'Z' | b'_' | b':' => true,
-        _ => false,
-    }
+    matches!(byte, b'a'..=b'z' | b'A'..=b'Z' | b'_' | b':')
 }
 
 pub fn is_name_byte(byte: u8) -> bool
     ensures answer { result ≡ is_name_byte byte }
 {
-    match byte {
-        letter if is_letter(letter) => true,
-        b'0'..=b'9' | b'-' | b'.' | b':' | b'_' => true,
-        _ => false,
-    }
+    is_letter(byte) || matches!(byte, b'0'..=b'9' | b'-' | b'.' | b':' | b'_')
 }
 
 // How many bytes at the front go on in a name.
 fn inner_len(rest: &[u8]) -> usize
     ensures answer { result ≡ prefix_len is_name_byte rest.now }
+    ensures within { result ≤ length rest.now }
 {
-    let mut n = 0;
-    while n < rest.len() && is_name_byte(rest[n]) {
-        n += 1;
-    }
-    n
+    rest.iter().take_while(|byte| is_name_byte(**byte)).count()
 }
 
 // How long the name at the front is, 0 where none begins.
@@ -59,7 +47,7 @@ pub fn name_len(rest: &[u8]) -> usize
 pub fn is_short_name(text: &[u8]) -> bool
     ensures answer { result ≡ is_short_name text.now }
 {
-    1 <= text.len() && text.len() <= MOST_NAME_BYTES && name_len(text) == text.len()
+    (1..=MOST_NAME_BYTES).contains(&text.len()) && name_len(text) == text.len()
 }
 
 // Whether two names are the same, byte for byte.

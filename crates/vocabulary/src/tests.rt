@@ -43,7 +43,7 @@ fn short_texts(rt: HostRuntime) {
         (b"D\nG\nG\nS", Question::NameTwice, 4),
     ];
     for (text, question, place) in cases {
-        answers(&rt, text, Err(Fault { question, place }));
+        answers(&rt, text, Err(question.at(place)));
     }
     answers(&rt, b"aaaaaaaabbbbbbbbccccccccdddddddd\n", Ok(()));
     answers(&rt, b":a.-9\n_\nd\nD\n", Ok(()));
@@ -55,14 +55,7 @@ fn long_texts(rt: HostRuntime) -> Result<(), Fail> {
     assert_eq!(rt; most.len(), 16384);
     answers(&rt, most.as_slice(), Ok(()));
     most.push(b'D')?;
-    answers(
-        &rt,
-        most.as_slice(),
-        Err(Fault {
-            question: Question::VocabularySize,
-            place: 0,
-        }),
-    );
+    answers(&rt, most.as_slice(), Err(Question::VocabularySize.at(0)));
     Ok(())
 }
 
@@ -74,14 +67,7 @@ fn many_names(rt: HostRuntime) -> Result<(), Fail> {
     assert_eq!(rt; vocabulary.len(), 512);
     assert_eq!(rt; vocabulary.code_of(b"hhh"), Some(512));
     text.extend_from_slice(b"D\n")?;
-    answers(
-        &rt,
-        text.as_slice(),
-        Err(Fault {
-            question: Question::TooManyNames,
-            place: 2048,
-        }),
-    );
+    answers(&rt, text.as_slice(), Err(Question::TooManyNames.at(2048)));
     Ok(())
 }
 
@@ -118,20 +104,8 @@ fn codes_and_names(rt: HostRuntime) -> Result<(), Fail> {
     assert_eq!(rt; vocabulary.code_of(b"D"), None);
     vocabulary.read(b"D\nG\nGS\n")?;
     is_names_of(&rt, &vocabulary);
-    assert_eq!(rt;
-        vocabulary.read(b"X\nX\n"),
-        Err(Fault {
-            question: Question::NameTwice,
-            place: 2,
-        })
-    );
-    assert_eq!(rt;
-        vocabulary.read(b""),
-        Err(Fault {
-            question: Question::VocabularySize,
-            place: 0,
-        })
-    );
+    assert_eq!(rt; vocabulary.read(b"X\nX\n"), Err(Question::NameTwice.at(2)));
+    assert_eq!(rt; vocabulary.read(b""), Err(Question::VocabularySize.at(0)));
     is_names_of(&rt, &vocabulary);
     vocabulary.read(b"S\n")?;
     assert_eq!(rt; vocabulary.len(), 1);
@@ -141,10 +115,7 @@ fn codes_and_names(rt: HostRuntime) -> Result<(), Fail> {
 
 #[test]
 fn shown(rt: HostRuntime) -> Result<(), Fail> {
-    let fault = Fault {
-        question: Question::WordNoneOpen,
-        place: 7,
-    };
+    let fault = Question::WordNoneOpen.at(7);
     assert_eq!(rt;
         format!(in rt.alloc(); "{fault}")?.as_str(),
         "refused 45 at 7: an end with no element open"

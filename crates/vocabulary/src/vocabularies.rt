@@ -1,7 +1,8 @@
-// A vocabulary over borrowed bytes. Every value of the type is an accepted one, or a fresh one with no names.
+// A vocabulary over borrowed bytes. Every value of the type is an accepted one, or a fresh one with no names. The text is
+// kept for what the type says of it.
 ghost use Rattle.std.specs.Prelude.{◌≡◌};
 ghost use Rattle.std.specs.List.{flat_map};
-ghost use Rattle.vocabulary.specs.Tables.{names_in, Rows, Chains};
+ghost use Rattle.vocabulary.specs.Tables.{names_in};
 ghost use Rattle.vocabulary.specs.Vocabularies.{line, EachName, NoTwo};
 
 use super::tables::Table;
@@ -11,10 +12,8 @@ pub mod reading;
 #[derive(Clone, Copy)]
 pub struct Vocabulary<'a> {
     text: &'a [u8],
-    table: Table,
-    ghost spelled: { text.now ≡ flat_map line (names_in text.now table) },
-    ghost each: { EachName (names_in text.now table) },
-    ghost once: { NoTwo (names_in text.now table) },
-    ghost rows: { Rows text.now table },
-    ghost chains: { Chains text.now table },
+    table: Table<'a>,
+    ghost spelled: { text.now ≡ flat_map line (names_in table) },
+    ghost each: { EachName (names_in table) },
+    ghost once: { NoTwo (names_in table) },
 }

@@ -5,3 +5,4 @@ pub mod Named
 pub mod Quiet
 pub mod Stack
 pub mod Turns
+pub mod Refusals

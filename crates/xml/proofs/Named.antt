@@ -7,15 +7,16 @@ use Rattle.std.proofs.lemmas.Bool.{cond-true, cond-false}
 use Rattle.vocabulary.specs.Names.{is_name_start, is_name_byte, name_size}
 use Rattle.markup.specs.Bytes.{close_angle, name_start, name_byte, white, begins, front}
 use Rattle.markup.specs.Runs.{shifted}
-use Rattle.markup.specs.Grammar.{Kind, opening, empty, closing, comment, instruction}
-use Rattle.markup.specs.Tags.{at_open, end_first, end_name, on, after, Scan, cut_short, ends, begins_none, misfits, name_in, scan_by, scan_from}
-use Rattle.markup.proofs.Bounds.{start_kind, end_kind, quiet_kind, ending, Comes, comes_by, end_comes, quiet_comes}
+use Rattle.markup.specs.Grammar.{Kind, opening, closing}
+use Rattle.markup.specs.Tags.{at_open, end_first, end_name, on, after, Scan, cut_short, ends, begins_none, misfits, scan_by, scan_from}
+use Rattle.markup.proofs.Bounds.{end_kind, quiet_kind, ending, Comes, comes_by, end_comes, quiet_comes}
 use Rattle.markup.proofs.Fronts.{begins_name, name_leads, named_start, front_name, front_take}
+use Rattle.markup.specs.declared.tags.TagKind.TheVariants.{Closing}
 use Rattle.xml.specs.declared.items.Span.{Span}
 use Rattle.xml.specs.declared.tags.Tagged.{Tagged}
-use Rattle.xml.specs.Items.{cut}
-use Rattle.xml.specs.Tags.{started_by, TagIs}
-use Rattle.xml.proofs.Tagging.{part_is, closing_from, end_is}
+use Rattle.xml.specs.Items.{cut, IsName}
+use Rattle.xml.specs.Tags.{TagIs}
+use Rattle.xml.proofs.Tagging.{part_is, end_is, end_scan}
 
 pub name_within : (s : List ℕ) → name_size s ≤ length s
 name_within [] = omega arith
@@ -67,17 +68,17 @@ pub cut_length : (m : List ℕ) (x : Span) → x.start ≤ x.end → x.end ≤ l
 cut_length m x order inside = let l = length-drop x.start m in length-take-le (x.end - x.start) (drop x.start m) (omega arith)
 
 -- a span of the name behind a `<` holds one name
-pub opened_name : (m : List ℕ) (p : ℕ) (x : Span) → 0 < name_size (drop (p + 1) m) → x.start ≤ x.end → x.end ≤ length m → cut m x ≡ front name_byte (drop (p + 1) m) → (x.start < x.end) × (x.end ≤ x.start + name_size (cut m x))
+pub opened_name : (m : List ℕ) (p : ℕ) (x : Span) → 0 < name_size (drop (p + 1) m) → x.start ≤ x.end → x.end ≤ length m → cut m x ≡ front name_byte (drop (p + 1) m) → IsName m x
 opened_name m p x some order inside spelt =
     let s = drop (p + 1) m in
     let is : cut m x ≡ take (name_size s) s = spelt ∙ front_name s some in
     let size : name_size (cut m x) ≡ name_size s = ap name_size is ∙ name_whole s some in
     let long : length (cut m x) ≡ name_size s = ap length is ∙ length-take-le (name_size s) s (name_within s) in
     let far = cut_length m x order inside in
-    (omega arith, omega arith)
+    record { some = omega arith; inside = inside; spelt = omega arith }
 
 -- an end tag of a known name, with its `>` right behind it
-pub end_of_name : (m : List ℕ) (p : ℕ) (name : List ℕ) → 0 < length name → length name ≤ name_size name → p + 2 + length name < length m → get_or m (p + 2 + length name) 0 ≡ 62 → drop (p + 1) m ≡ 47 ∷ drop (p + 2) m → cut m (record { start = p + 2; end = p + 2 + length name }) ≡ name → TagIs m p closing (record { name = record { start = p + 2; end = p + 2 + length name }; len = 1 + length name + 1; filled = false })
+pub end_of_name : (m : List ℕ) (p : ℕ) (name : List ℕ) → 0 < length name → length name ≤ name_size name → p + 2 + length name < length m → get_or m (p + 2 + length name) 0 ≡ 62 → drop (p + 1) m ≡ 47 ∷ drop (p + 2) m → cut m (record { start = p + 2; end = p + 2 + length name }) ≡ name → TagIs m p closing (record { kind = Closing; name = record { start = p + 2; end = p + 2 + length name }; len = 1 + length name + 1 })
 unfolding name_byte white
 end_of_name m p name some whole lt at sl same =
     let s = drop (p + 2) m in
@@ -88,64 +89,44 @@ end_of_name m p name some whole lt at sl same =
     let l = length-drop (p + 2) m in
     let byte : get_or s n 0 ≡ 62 = get_or-drop (p + 2) m n 0 ∙ at in
     let e : n ≡ name_size s = sym (name_stops s n (omega arith) (omega arith) (omega arith) (ap is_name_byte byte)) in
-    let ahead : drop n s ≡ 62 ∷ drop (n + 1) s = drop_more s n 0 (omega arith) ∙ ap (λ b. b ∷ drop (n + 1) s) byte in
-    let is : ends closing 1 ≡ scan_from end_name (drop n s) = sym (ap (scan_from end_name) ahead) in
-    end_is m p n e sl (ends closing 1) (closing_from s n (ends closing 1) (λ z. omega arith) e is) 1 false refl (omega arith)
-
--- no kind is that of a start tag and of an end tag or of what tells nothing
-no_end : (k : Kind) → start_kind k ≡ true → end_kind k ≡ true → ⊥
-no_end opening h g = let z : ◌≡◌ {A = ℕ} 0 1 = cc in omega arith
-no_end empty h g = let z : ◌≡◌ {A = ℕ} 0 1 = cc in omega arith
-no_end closing h g = let z : ◌≡◌ {A = ℕ} 0 1 = cc in omega arith
-no_end comment h g = let z : ◌≡◌ {A = ℕ} 0 1 = cc in omega arith
-no_end instruction h g = let z : ◌≡◌ {A = ℕ} 0 1 = cc in omega arith
-
-no_quiet : (k : Kind) → start_kind k ≡ true → quiet_kind k ≡ true → ⊥
-no_quiet opening h g = let z : ◌≡◌ {A = ℕ} 0 1 = cc in omega arith
-no_quiet empty h g = let z : ◌≡◌ {A = ℕ} 0 1 = cc in omega arith
-no_quiet closing h g = let z : ◌≡◌ {A = ℕ} 0 1 = cc in omega arith
-no_quiet comment h g = let z : ◌≡◌ {A = ℕ} 0 1 = cc in omega arith
-no_quiet instruction h g = let z : ◌≡◌ {A = ℕ} 0 1 = cc in omega arith
+    let ahead : drop (p + 2 + n) m ≡ 62 ∷ drop (p + 2 + n + 1) m = drop_more m (p + 2 + n) 0 lt ∙ ap (λ b. b ∷ drop (p + 2 + n + 1) m) at in
+    let is : scan_from end_name (drop (p + 2 + n) m) ≡ ends closing 1 = ap (scan_from end_name) ahead in
+    end_is m p n e sl (omega arith) _ some (omega arith) (sym (end_scan m p n e sl (omega arith) some) ∙ ap (shifted (1 + n)) is) refl
 
 -- what ends as a start tag begins with a name
-start_named : (s : List ℕ) (k : Kind) (c : ℕ) → start_kind k ≡ true → scan_from at_open s ≡ ends k c → 0 < name_size s
+start_named : (s : List ℕ) (c : ℕ) → scan_from at_open s ≡ ends opening c → 0 < name_size s
 unfolding name_start
-start_named [] k c h e = absurd (let z : ◌≡◌ {A = ℕ} 0 1 = cc in omega arith)
-start_named (b ∷ s) k c h e = by_start (is_name_start b) refl
+start_named [] c e = absurd cc
+start_named (b ∷ s) c e = by_start (is_name_start b) refl
   where
+    never : ◌≡◌ {A = Bool} false true → ⊥
+    never h = cc
+
     by_slash : (r : Bool) → is_name_start b ≡ false → eqb b 47 ≡ r → ⊥
     by_slash true q r =
         let is : after at_open b ≡ on end_first = cond-false _ _ _ q ∙ cond-true _ _ _ r in
         let come : Comes end_kind (scan_by (on end_first) (λ t. scan_from t s)) = comes_by ending end_kind s (on end_first) refl (λ t g. end_comes t s g) in
-        no_end k h (subst (Comes end_kind) (ap (λ m. scan_by m (λ t. scan_from t s)) (sym is) ∙ e) come)
-    by_slash false q r = no_quiet k h (subst (Comes quiet_kind) e (quiet_comes (b ∷ s) r q))
+        never (subst (Comes end_kind) (ap (λ m. scan_by m (λ t. scan_from t s)) (sym is) ∙ e) come)
+    by_slash false q r = never (subst (Comes quiet_kind) e (quiet_comes (b ∷ s) r q))
 
     by_start : (p : Bool) → is_name_start b ≡ p → 0 < cond p (1 + prefix_len is_name_byte s) 0
     by_start true q = omega arith
     by_start false q = absurd (by_slash (eqb b 47) q refl)
 
 shifted_least : (n c : ℕ) (k : Kind) (x : Scan) → shifted n x ≡ ends k c → n ≤ c
-shifted_least n c k cut_short e = absurd (let z : ◌≡◌ {A = ℕ} 0 1 = cc in omega arith)
+shifted_least n c k cut_short e = absurd cc
 shifted_least n c k (ends j d) e = let z : n + d ≡ c = cc in omega arith
-shifted_least n c k begins_none e = absurd (let z : ◌≡◌ {A = ℕ} 0 1 = cc in omega arith)
-shifted_least n c k (misfits d) e = absurd (let z : ◌≡◌ {A = ℕ} 0 1 = cc in omega arith)
-
-starts : (f : Bool) → start_kind (started_by f) ≡ true
-starts true = refl
-starts false = refl
-
-named_in : (f : Bool) (bs : List ℕ) → name_in (started_by f) bs ≡ front name_byte bs
-named_in true bs = refl
-named_in false bs = refl
+shifted_least n c k begins_none e = absurd cc
+shifted_least n c k (misfits d) e = absurd cc
 
 -- the span of a start tag's name holds one name
-pub tag_name : (m : List ℕ) (p : ℕ) (f : Bool) (t : Tagged) → TagIs m p (started_by f) t → (t.name.start < t.name.end) × (t.name.end ≤ t.name.start + name_size (cut m t.name))
-tag_name m p f t is =
+pub tag_name : (m : List ℕ) (p : ℕ) (t : Tagged) → TagIs m p opening t → IsName m t.name
+tag_name m p t is =
     let s = drop (p + 1) m in
-    let some : 0 < name_size s = start_named s (started_by f) t.len (starts f) is.scan in
+    let some : 0 < name_size s = start_named s t.len is.scan in
     let far : name_size s ≤ t.len = shifted_least _ _ _ _ (sym (named_start s some) ∙ is.scan) in
     let leads : name_size s ≡ prefix_len is_name_byte s = name_leads s some in
-    let spelt : cut m t.name ≡ front name_byte s = is.spelt ∙ named_in f (take t.len s) ∙ front_take s t.len (omega arith) in
+    let spelt : cut m t.name ≡ front name_byte s = is.spelt ∙ front_take s t.len (omega arith) in
     opened_name m p t.name some is.order is.inside spelt
 
 -- a name and a `>` stand in front exactly where there is room for them and both are found
@@ -159,13 +140,13 @@ stands (a ∷ name) (b ∷ s) lt same at =
     cond-true _ _ _ (eq-eqb a b e) ∙ stands name s (omega arith) rest at
 
 pub stood : (name s : List ℕ) → begins (name ++ close_angle ∷ []) s ≡ true → (length name < length s) × (take (length name) s ≡ name) × (get_or s (length name) 0 ≡ 62)
-stood [] [] h = absurd (let z : ◌≡◌ {A = ℕ} 0 1 = cc in omega arith)
+stood [] [] h = absurd cc
 stood [] (b ∷ s) h = by_byte (eqb 62 b) refl h
   where
     by_byte : (p : Bool) → eqb 62 b ≡ p → cond p true false ≡ true → (0 < suc (length s)) × (◌≡◌ {A = List ℕ} [] []) × (b ≡ 62)
     by_byte true e h = (omega arith, refl, sym (eqb-true 62 b e))
-    by_byte false e h = absurd (let z : ◌≡◌ {A = ℕ} 0 1 = cc in omega arith)
-stood (a ∷ name) [] h = absurd (let z : ◌≡◌ {A = ℕ} 0 1 = cc in omega arith)
+    by_byte false e h = absurd cc
+stood (a ∷ name) [] h = absurd cc
 stood (a ∷ name) (b ∷ s) h = by_byte (eqb a b) refl (stood name s) h
   where
     by_byte : (p : Bool) → eqb a b ≡ p → (begins (name ++ close_angle ∷ []) s ≡ true → (length name < length s) × (take (length name) s ≡ name) × (get_or s (length name) 0 ≡ 62)) → cond p (begins (name ++ close_angle ∷ []) s) false ≡ true → (suc (length name) < suc (length s)) × (b ∷ take (length name) s ≡ a ∷ name) × (get_or s (length name) 0 ≡ 62)
@@ -174,7 +155,7 @@ stood (a ∷ name) (b ∷ s) h = by_byte (eqb a b) refl (stood name s) h
         let same : a ≡ b = eqb-true a b e in
         let rest : take (length name) s ≡ name = far.1 in
         (omega arith, cc, far.2)
-    by_byte false e ih h = absurd (let z : ◌≡◌ {A = ℕ} 0 1 = cc in omega arith)
+    by_byte false e ih h = absurd cc
 
 -- what does not hold is false
 pub untrue : (b : Bool) → (b ≡ true → ⊥) → false ≡ b

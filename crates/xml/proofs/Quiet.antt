@@ -43,7 +43,7 @@ Facts m n (Ok Start) = (get_or m n 0 ≡ 60) × (n + 1 ≤ length m) × (0 < nam
 Facts m n (Ok End) = (get_or m n 0 ≡ 60) × (n + 2 ≤ length m) × (drop (n + 1) m ≡ 47 ∷ drop (n + 2) m)
 
 never : {X : Type 0} → ◌≡◌ {A = Bool} false true → X
-never e = let z : ◌≡◌ {A = ℕ} 0 1 = cc in absurd (omega arith)
+never e = absurd cc
 
 -- markup, by how it goes on behind its `<`
 module _ (voc : List (List ℕ)) (st : Stand) (m : List ℕ) (n : ℕ) where

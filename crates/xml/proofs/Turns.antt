@@ -1,9 +1,9 @@
 -- A turn of the reader over a tag: the tag tells its event, or the fault that ends the message. Assumes nothing.
-use Rattle.std.proofs.Common.{◌≡◌, ℕ, zero, suc, ◌+◌, ◌-◌, ◌<◌, ◌≤◌, Bool, true, false, cond, not, eqb, ltb, leb, List, [], ◌∷◌, ◌++◌, length, drop, Some, None, Ok, Err, Option, Result, sym, refl, ap, ◌∙◌, subst, arith}
+use Rattle.std.proofs.Common.{◌≡◌, ℕ, ◌+◌, ◌<◌, ◌≤◌, Bool, true, false, cond, not, eqb, leb, List, [], ◌∷◌, ◌++◌, length, drop, Some, None, Ok, Err, Option, Result, sym, refl, ap, ◌∙◌, subst, arith}
 use Rattle.std.specs.Option.{option_map}
 use Rattle.std.specs.Str.{bytes_eq}
 use Rattle.std.proofs.lemmas.List.{drop-drop}
-use Rattle.std.proofs.lemmas.Bool.{cond-true, le-leb, leb-false, lt-ltb, ne_eqb}
+use Rattle.std.proofs.lemmas.Bool.{cond-true, le-leb, leb-false}
 use Rattle.vocabulary.specs.declared.faults.Fault.{Fault}
 use Rattle.vocabulary.specs.declared.faults.Question.TheVariants.{TagAfterRoot, TagTooDeep, EndTagUnmet}
 use Rattle.vocabulary.specs.Faults.{fault}
@@ -14,6 +14,9 @@ use Rattle.message.specs.Sources.{Ending, closed, faulted, last_told, told, rest
 use Rattle.markup.specs.Documents.{code_or_0}
 use Rattle.markup.specs.Grammar.{Kind, opening, empty, closing}
 use Rattle.markup.specs.Readings.{most_text, Stand, Status, between, stopped, Step, is_empty, left, started, closed_by, acted, refuse, events_from, ending_from}
+use Rattle.markup.specs.Runs.{kind_of}
+use Rattle.markup.specs.declared.tags.TagKind.{TagKind}
+use Rattle.markup.specs.declared.tags.TagKind.TheVariants.{Opening, Empty, Closing}
 use Rattle.markup.specs.Tags.{at_open, Scan, cut_short, ends, begins_none, misfits, scan_from}
 use Rattle.markup.specs.Tellings.{events_by, ending_by}
 use Rattle.markup.proofs.Telling.{stopped_events, stopped_ending}
@@ -23,9 +26,10 @@ use Rattle.xml.specs.declared.texts.TextReader.{TextReader}
 use Rattle.xml.specs.Items.{cut}
 use Rattle.xml.specs.Opened.{admitted, met, After}
 use Rattle.xml.specs.Seeks.{Onwards}
-use Rattle.xml.specs.Tags.{fault_by, started_by, TagIs}
-use Rattle.xml.specs.Texts.{Answer, bytes_of, codes_of, coming_at, final_at, coming_of, final_of, events_of, ending_of, latest_after, latest_of, name_behind, names_at, spelt, stand_at, stand_of, CodeOf, Turn}
-use Rattle.xml.proofs.Stack.{size, last, none_open}
+use Rattle.xml.specs.Tags.{fault_by, TagIs}
+use Rattle.xml.specs.Texts.{Answer, bytes_of, codes_of, coming_at, final_at, coming_of, final_of, events_of, ending_of, latest_after, latest_of, name_behind, open_names, spelt, stand_at, stand_of, CodeOf, Turn}
+use Rattle.rows.specs.Rows.{items_of}
+use Rattle.xml.proofs.Stack.{none_open}
 
 abbrev pub Tells : List Event → Ending → List Event → Ending → Type 0
 Tells es e es' e' = (es ≡ es') × (e ≡ e')
@@ -65,7 +69,7 @@ module _ (voc : List (List ℕ)) (st : Stand) (p : ℕ) (bs : List ℕ) (f : Fau
     where
       some_same : {g : Fault} → ◌≡◌ {A = Option Fault} (Some g) (Some f) → g ≡ f
       some_same h = cc
-  faulty (ends k c) h = let z : ◌≡◌ {A = ℕ} 0 1 = cc in absurd (omega arith)
+  faulty (ends k c) h = absurd cc
   faulty begins_none h = (refl, (let z : fault _ p ≡ f = some_same h in ap faulted z))
     where
       some_same : {g : Fault} → ◌≡◌ {A = Option Fault} (Some g) (Some f) → g ≡ f
@@ -147,21 +151,27 @@ Verdict = Result (Unit {0}) Fault
 
 -- a start tag is admitted only inside, and with few open
 pub may_open : (o : Bool) (d p : ℕ) → admitted o d p ≡ Ok tt → (o ≡ false) × (d < most_open)
-may_open true d p h = absurd (let z : ◌≡◌ {A = ℕ} 0 1 = cc in omega arith)
+may_open true d p h = absurd cc
 may_open false d p h = (refl, by_depth (leb most_open d) refl h)
   where
     by_depth : (b : Bool) → leb most_open d ≡ b → ◌≡◌ {A = Result (Unit {0}) Fault} (cond b (Err (fault TagTooDeep p)) (Ok tt)) (Ok tt) → d < most_open
-    by_depth true e h = absurd (let z : ◌≡◌ {A = ℕ} 0 1 = cc in omega arith)
+    by_depth true e h = absurd cc
     by_depth false e h = omega (arith, leb-false)
+
+-- a start tag that does not open an element is empty
+pub left_empty : (k : TagKind) → (k ≡ Opening → ⊥) → (k ≡ Closing → ⊥) → k ≡ Empty
+left_empty Opening a b = absurd (a refl)
+left_empty Empty a b = refl
+left_empty Closing a b = absurd (b refl)
 
 -- a start tag that is not admitted, and one that is
 ok_not : {X : Type 0} (f : Fault) → ◌≡◌ {A = Verdict} (Ok tt) (Err f) → X
-ok_not f h = let z : ◌≡◌ {A = ℕ} 0 1 = cc in absurd (omega arith)
+ok_not f h = absurd cc
 
 err_same : (f g : Fault) → ◌≡◌ {A = Verdict} (Err f) (Err g) → f ≡ g
 err_same f g h = cc
 
-module _ (st : Stand) (d p : ℕ) (es : List Event) (next : Status) (deep : length st.names ≡ d) where
+module _ (st : Stand) (p : ℕ) (es : List Event) (next : Status) where
   by_depth : (o b : Bool) (f : Fault) → ◌≡◌ {A = Verdict} (cond o (Err (fault TagAfterRoot p)) (cond b (Err (fault TagTooDeep p)) (Ok tt))) (Err f) → cond o (refuse TagAfterRoot p) (cond b (refuse TagTooDeep p) (record { told = es; next = next })) ≡ record { told = []; next = stopped f }
   by_depth true b f h = ap (λ g. record { told = []; next = stopped g }) (err_same _ f h)
   by_depth false true f h = ap (λ g. record { told = []; next = stopped g }) (err_same _ f h)
@@ -172,54 +182,45 @@ module _ (st : Stand) (d p : ℕ) (es : List Event) (next : Status) (deep : leng
   in_depth false true h = ok_not _ (sym h)
   in_depth false false h = refl
 
-  deep_is : started st p es next ≡ cond st.over (refuse TagAfterRoot p) (cond (leb most_open d) (refuse TagTooDeep p) (record { told = es; next = next }))
-  deep_is = ap (λ n. cond st.over (refuse TagAfterRoot p) (cond (leb most_open n) (refuse TagTooDeep p) (record { told = es; next = next }))) deep
+  refused : (f : Fault) → admitted st.over (length st.names) p ≡ Err f → started st p es next ≡ record { told = []; next = stopped f }
+  refused f h = by_depth st.over (leb most_open (length st.names)) f h
 
-  refused : (f : Fault) → admitted st.over d p ≡ Err f → started st p es next ≡ record { told = []; next = stopped f }
-  refused f h = deep_is ∙ by_depth st.over (leb most_open d) f h
-
-  accepted : admitted st.over d p ≡ Ok tt → started st p es next ≡ record { told = es; next = next }
-  accepted h = deep_is ∙ in_depth st.over (leb most_open d) h
+  accepted : admitted st.over (length st.names) p ≡ Ok tt → started st p es next ≡ record { told = es; next = next }
+  accepted h = in_depth st.over (leb most_open (length st.names)) h
 
 module _ (s : TextReader) (p : ℕ) (idle : s.pending ≡ None) (onwards : Onwards (codes_of s) (stand_of s) (bytes_of s) s.place p) (tag : Tagged) where
   abbrev name : List ℕ
   name = cut (bytes_of s) tag.name
 
   abbrev names : List (List ℕ)
-  names = names_at (bytes_of s) s.spans s.depth
+  names = open_names s
 
-  deep : length names ≡ s.depth
-  deep = size (bytes_of s) s.spans s.depth (let f = s.full in let h = s.shallow in omega arith)
+  pub not_admitted : (k : TagKind) (f : Fault) → (k ≡ Closing → ⊥) → TagIs (bytes_of s) p (kind_of k) tag → admitted s.over (length names) p ≡ Err f → Turn s (Err f) s
+  not_admitted Opening f start is h = tag_stops s p idle onwards opening tag is f (refused (stand_of s) p _ _ f h)
+  not_admitted Empty f start is h = tag_stops s p idle onwards empty tag is f (refused (stand_of s) p _ _ f h)
+  not_admitted Closing f start is h = absurd (start refl)
 
-  none : is_empty names ≡ eqb s.depth 0
-  none = none_open (bytes_of s) s.spans s.depth (let f = s.full in let h = s.shallow in omega arith)
-
-  pub not_admitted : (filled : Bool) (f : Fault) → TagIs (bytes_of s) p (started_by filled) tag → admitted s.over s.depth p ≡ Err f → Turn s (Err f) s
-  not_admitted true f is h = tag_stops s p idle onwards opening tag is f (refused (stand_of s) s.depth p _ _ deep f h)
-  not_admitted false f is h = tag_stops s p idle onwards empty tag is f (refused (stand_of s) s.depth p _ _ deep f h)
-
-  module _ (code : ℕ) (coded : code ≡ code_or_0 (codes_of s) name) (at : tag.name.start ≡ p + 1) (Spelt-is : name ≡ name_behind (bytes_of s) p) (fine : admitted s.over s.depth p ≡ Ok tt) (s' : TextReader) where
+  module _ (code : ℕ) (coded : code ≡ code_or_0 (codes_of s) name) (at : tag.name.start ≡ p + 1) (Spelt-is : name ≡ name_behind (bytes_of s) p) (fine : admitted s.over (length names) p ≡ Ok tt) (s' : TextReader) where
     latest_is : latest_of s' ≡ option_map (spelt (bytes_of s)) (Some tag.name) → latest_of s' ≡ latest_after (bytes_of s) (Ok (Some (Start code p))) (latest_of s)
     latest_is e = e ∙ (λ i. Some (at i, Spelt-is i))
 
     pub opened : TagIs (bytes_of s) p opening tag → After s p tag (name ∷ names) false None (Some tag.name) s' → Turn s (Ok (Some (Start code p))) s'
     opened is after =
-        let e = accepted (stand_of s) s.depth p (Start (code_or_0 (codes_of s) name) p ∷ []) (between (stand_at (name ∷ names) false)) deep fine in
+        let e = accepted (stand_of s) p (Start (code_or_0 (codes_of s) name) p ∷ []) (between (stand_at (name ∷ names) false)) fine in
         go s s' (Start code p)
         (tag_events_as s p idle onwards opening tag is _ e ∙ (λ i. Start (sym coded i) p ∷ sym (after_coming s p idle onwards opening tag _ _ _ _ s' after) i))
         (tag_ending_as s p idle onwards opening tag is _ e ∙ sym (after_final s p idle onwards opening tag _ _ _ _ s' after))
         after.count after.bytes (latest_is (after_latest s p idle onwards opening tag _ _ _ _ s' after)) (coded ∙ ap (code_or_0 (codes_of s)) Spelt-is)
 
-    pub passed : TagIs (bytes_of s) p empty tag → After s p tag names (eqb s.depth 0) (Some p) (Some tag.name) s' → Turn s (Ok (Some (Start code p))) s'
+    pub passed : TagIs (bytes_of s) p empty tag → After s p tag names (is_empty names) (Some p) (Some tag.name) s' → Turn s (Ok (Some (Start code p))) s'
     passed is after =
-        let e = accepted (stand_of s) s.depth p (Start (code_or_0 (codes_of s) name) p ∷ End p ∷ []) (left names) deep fine in
+        let e = accepted (stand_of s) p (Start (code_or_0 (codes_of s) name) p ∷ End p ∷ []) (left names) fine in
         let far = p + 1 + tag.len in
         go s s' (Start code p)
         (tag_events_as s p idle onwards empty tag is _ e
-        ∙ (λ i. Start (sym coded i) p ∷ End p ∷ events_from (codes_of s) (between (stand_at names (none i))) far (drop far (bytes_of s)))
+        ∙ (λ i. Start (sym coded i) p ∷ End p ∷ events_from (codes_of s) (left names) far (drop far (bytes_of s)))
         ∙ ap (λ l. Start code p ∷ l) (sym (after_coming s p idle onwards empty tag _ _ _ _ s' after)))
         (tag_ending_as s p idle onwards empty tag is _ e
-        ∙ (λ i. ending_from (codes_of s) (between (stand_at names (none i))) far (drop far (bytes_of s)))
         ∙ sym (after_final s p idle onwards empty tag _ _ _ _ s' after))
         after.count after.bytes (latest_is (after_latest s p idle onwards empty tag _ _ _ _ s' after)) (coded ∙ ap (code_or_0 (codes_of s)) Spelt-is)
 
@@ -242,33 +243,16 @@ module _ (s : TextReader) (p : ℕ) (idle : s.pending ≡ None) (onwards : Onwar
   pub unmet : (f : Fault) → TagIs (bytes_of s) p closing tag → met names p name ≡ Err f → Turn s (Err f) s
   unmet f is h = tag_stops s p idle onwards closing tag is f (unmet_by names f h)
 
-  some_met : (d : ℕ) → met (names_at (bytes_of s) s.spans d) p name ≡ Ok tt → 0 < d
-  some_met d h = by_zero d h
-    where
-      by_zero : (d : ℕ) → met (names_at (bytes_of s) s.spans d) p name ≡ Ok tt → 0 < d
-      by_zero zero h = ok_not _ (sym h)
-      by_zero (suc d) h = omega arith
+  met_first : (ns : List (List ℕ)) → met ns p name ≡ Ok tt → closed_by ns p name ≡ record { told = End p ∷ []; next = left (drop 1 ns) }
+  met_first [] h = ok_not _ (sym h)
+  met_first (x ∷ xs) h = met_by x xs h
 
-  pub some_open : met names p name ≡ Ok tt → 0 < s.depth
-  some_open h = some_met s.depth h
-
-  pub closed_by_lem : (s' : TextReader) → TagIs (bytes_of s) p closing tag → met names p name ≡ Ok tt → After s p tag (names_at (bytes_of s) s.spans (s.depth - 1)) (eqb (s.depth - 1) 0) None s.latest s' → Turn s (Ok (Some (End p))) s'
+  pub closed_by_lem : (s' : TextReader) → TagIs (bytes_of s) p closing tag → met names p name ≡ Ok tt → After s p tag (drop 1 names) (is_empty (drop 1 names)) None s.latest s' → Turn s (Ok (Some (End p))) s'
   closed_by_lem s' is h after =
-      let some = some_open h in
-      let full = s.full in
-      let low = s.shallow in
-      let ms = names_at (bytes_of s) s.spans (s.depth - 1) in
-      let tops = last (bytes_of s) s.spans s.depth (record { start = 0; end = 0 }) some (omega arith) in
-      let e = ap (λ l. closed_by l p name) tops ∙ met_by _ ms (sym (ap (λ l. met l p name) tops) ∙ h) in
-      let fewer = none_open (bytes_of s) s.spans (s.depth - 1) (omega arith) in
-      let far = p + 1 + tag.len in
+      let e = met_first names h in
       go s s' (End p)
-      (tag_events_as s p idle onwards closing tag is _ e
-      ∙ (λ i. End p ∷ events_from (codes_of s) (between (stand_at ms (fewer i))) far (drop far (bytes_of s)))
-      ∙ ap (λ l. End p ∷ l) (sym (after_coming s p idle onwards closing tag _ _ _ _ s' after)))
-      (tag_ending_as s p idle onwards closing tag is _ e
-      ∙ (λ i. ending_from (codes_of s) (between (stand_at ms (fewer i))) far (drop far (bytes_of s)))
-      ∙ sym (after_final s p idle onwards closing tag _ _ _ _ s' after))
+      (tag_events_as s p idle onwards closing tag is _ e ∙ ap (λ l. End p ∷ l) (sym (after_coming s p idle onwards closing tag _ _ _ _ s' after)))
+      (tag_ending_as s p idle onwards closing tag is _ e ∙ sym (after_final s p idle onwards closing tag _ _ _ _ s' after))
       after.count after.bytes (after_latest s p idle onwards closing tag _ _ _ _ s' after) tt
 
 -- nothing is left to tell
@@ -304,9 +288,9 @@ module _ (s : TextReader) (small : length (bytes_of s) ≤ most_text) where
   idle_coming idle = ap (λ q. coming_at (codes_of s) (bytes_of s) q (stand_of s) s.place) idle
 
 -- whether the reader stands inside the root
-inside_by : (d : ℕ) → eqb d 0 ≡ not (ltb 0 d)
-inside_by zero = refl
-inside_by (suc d) = ne_eqb (suc d) 0 (λ z. omega arith) ∙ sym (ap not (lt-ltb 0 (suc d) (omega arith)))
-
-pub inside_is : (s : TextReader) → is_empty (stand_of s).names ≡ not (ltb 0 s.depth)
-inside_is s = none_open (bytes_of s) s.spans s.depth (let f = s.full in let h = s.shallow in omega arith) ∙ inside_by s.depth
+pub inside_is : (s : TextReader) (b : Bool) → b ≡ eqb (length (items_of s.spans)) 0 → is_empty (stand_of s).names ≡ not (not b)
+inside_is s b e = none_open (bytes_of s) (items_of s.spans) ∙ sym e ∙ twice b
+  where
+    twice : (b : Bool) → b ≡ not (not b)
+    twice true = refl
+    twice false = refl

@@ -1,11 +1,13 @@
 -- The fields of a reader after a tag. Assumes nothing.
-use Rattle.std.specs.Prelude.{◌≡◌, ℕ, ◌+◌, Bool, false, cond, List, [], ◌∷◌, ◌++◌, Some, None, Ok, Err, Option, Result, nat_le}
+use Rattle.std.specs.Prelude.{◌≡◌, ℕ, ◌+◌, ◌<◌, ◌≤◌, Bool, false, cond, List, [], ◌∷◌, ◌++◌, Some, None, Ok, Err, Option, Result, length, nat_le}
 use Rattle.vocabulary.specs.declared.faults.Fault.{Fault}
-use Rattle.vocabulary.specs.declared.faults.Question.TheVariants.{TagAfterRoot, TagTooDeep, EndTagUnmet, TextNotEnded}
+use Rattle.vocabulary.specs.declared.faults.Question.TheVariants.{TagAfterRoot, TagTooDeep, EndTagUnmet}
 use Rattle.vocabulary.specs.Faults.{fault}
 use Rattle.vocabulary.specs.Limits.{most_open}
+use Rattle.vocabulary.specs.Names.{name_size}
+use Rattle.std.specs.Borrow.{Bor}
 use Rattle.std.specs.Str.{bytes_eq}
-use Rattle.message.specs.Sources.{Ending, closed, faulted}
+use Rattle.xml.specs.declared.items.At.{At}
 use Rattle.xml.specs.declared.items.Span.{Span}
 use Rattle.xml.specs.declared.tags.Tagged.{Tagged}
 use Rattle.xml.specs.declared.texts.TextReader.{TextReader}
@@ -13,7 +15,7 @@ use Rattle.markup.specs.Bytes.{begins, close_angle}
 use Rattle.markup.specs.Grammar.{closing}
 use Rattle.xml.specs.Items.{cut}
 use Rattle.xml.specs.Tags.{TagIs}
-use Rattle.xml.specs.Texts.{names_at, bytes_of, codes_of}
+use Rattle.xml.specs.Texts.{open_names, bytes_of, codes_of}
 
 -- whether a start tag may stand, where d elements are open and o says whether the root has ended
 abbrev pub admitted : Bool → ℕ → ℕ → Result (Unit {0}) Fault
@@ -34,16 +36,24 @@ abbrev pub closes_innermost : List (List ℕ) → List ℕ → Bool
 closes_innermost [] s = false
 closes_innermost (x ∷ xs) s = begins (x ++ close_angle ∷ []) s
 
--- how the message ends where its text does
-abbrev pub last_ending : Bool → ℕ → Ending
-last_ending o p = cond o closed (faulted (fault TextNotEnded p))
+-- the name of the innermost of these open elements, which is one name, or that none is open
+abbrev pub Innermost : List (List ℕ) → Option (Bor (List ℕ)) → Type 0
+Innermost names None = names ≡ []
+Innermost [] (Some x) = ⊥
+Innermost (n ∷ names) (Some x) = (x.now ≡ n) × (0 < length n) × (length n ≤ name_size n)
+
+-- a tag at a place of the reader's message that the reader has not passed, where no end is owed
+pub record Ready (s : TextReader) (at : At) : Type 0 where
+  pub here : at.message.now ≡ bytes_of s
+  pub ahead : s.place ≤ at.place
+  pub idle : s.pending ≡ None
 
 -- the reader after a tag: these names are open
 pub record After (s : TextReader) (place : ℕ) (tag : Tagged) (names : List (List ℕ)) (over : Bool) (pending : Option ℕ) (latest : Option Span) (s' : TextReader) : Type 0 where
   pub bytes : bytes_of s' ≡ bytes_of s
   pub codes : codes_of s' ≡ codes_of s
   pub placed : s'.place ≡ place + 1 + tag.len
-  pub stack : names_at (bytes_of s') s'.spans s'.depth ≡ names
+  pub stack : open_names s' ≡ names
   pub ended : s'.over ≡ over
   pub owing : s'.pending ≡ pending
   pub last : s'.latest ≡ latest

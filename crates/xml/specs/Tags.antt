@@ -1,12 +1,14 @@
 -- What a tag at a place of a message is, or why there is none. Assumes nothing.
-use Rattle.std.specs.Prelude.{◌≡◌, ℕ, ◌+◌, ◌<◌, ◌≤◌, Bool, true, false, List, length, take, drop, Some, None, Ok, Err, Option, Result}
+use Rattle.std.specs.Prelude.{◌≡◌, ℕ, ◌+◌, ◌<◌, ◌≤◌, List, length, take, drop, Some, None, Ok, Err, Option, Result}
 use Rattle.vocabulary.specs.declared.faults.Fault.{Fault}
 use Rattle.vocabulary.specs.declared.faults.Question.TheVariants.{NoMarkup, MarkupNotEnded, ByteMisfit}
 use Rattle.vocabulary.specs.Faults.{fault}
 use Rattle.markup.specs.Bytes.{name_byte, front}
-use Rattle.markup.specs.Grammar.{Kind, opening, empty, closing}
-use Rattle.markup.specs.Runs.{shifted}
-use Rattle.markup.specs.Tags.{at_open, end_first, name_in, Scan, cut_short, ends, begins_none, misfits, scan_from}
+use Rattle.markup.specs.Grammar.{Kind, closing}
+use Rattle.markup.specs.Runs.{kind_of}
+use Rattle.markup.specs.Tags.{at_open, name_in, Scan, cut_short, ends, begins_none, misfits, scan_from}
+use Rattle.markup.specs.declared.tags.TagKind.TheVariants.{Closing}
+use Rattle.xml.specs.declared.items.Span.{Span}
 use Rattle.xml.specs.declared.tags.Tagged.{Tagged}
 use Rattle.xml.specs.Items.{cut}
 
@@ -17,9 +19,10 @@ fault_by p (ends k c) = None
 fault_by p begins_none = Some (fault NoMarkup p)
 fault_by p (misfits c) = Some (fault ByteMisfit (p + 1 + c))
 
-abbrev pub started_by : Bool → Kind
-started_by true = opening
-started_by false = empty
+-- a tag at the place p with this name that goes on so behind its `<`
+abbrev pub Reads : ℕ → Span → Scan → Result Tagged Fault → Type 0
+Reads p name x (Err f) = fault_by p x ≡ Some f
+Reads p name x (Ok t) = (t.name ≡ name) × (x ≡ ends (kind_of t.kind) t.len)
 
 -- a tag of this kind
 pub record TagIs (m : List ℕ) (p : ℕ) (k : Kind) (t : Tagged) : Type 0 where
@@ -32,7 +35,7 @@ pub record TagIs (m : List ℕ) (p : ℕ) (k : Kind) (t : Tagged) : Type 0 where
 
 abbrev pub StartTagged : List ℕ → ℕ → Result Tagged Fault → Type 0
 StartTagged m p (Err f) = fault_by p (scan_from at_open (drop (p + 1) m)) ≡ Some f
-StartTagged m p (Ok t) = TagIs m p (started_by t.filled) t × (t.name.start ≡ p + 1) × (cut m t.name ≡ front name_byte (drop (p + 1) m))
+StartTagged m p (Ok t) = TagIs m p (kind_of t.kind) t × (t.kind ≡ Closing → ⊥) × (t.name.start ≡ p + 1) × (cut m t.name ≡ front name_byte (drop (p + 1) m))
 
 abbrev pub EndTagged : List ℕ → ℕ → Result Tagged Fault → Type 0
 EndTagged m p (Err f) = fault_by p (scan_from at_open (drop (p + 1) m)) ≡ Some f
@@ -42,8 +45,3 @@ EndTagged m p (Ok t) = TagIs m p closing t
 abbrev pub EndNamed : List ℕ → ℕ → List ℕ → Option Tagged → Type 0
 EndNamed m p name None = Unit {0}
 EndNamed m p name (Some t) = TagIs m p closing t × (cut m t.name ≡ name)
-
--- the bytes behind `</` go on so, of which the first are a name of so many bytes; they end only behind a name
-pub record ClosingFrom (s : List ℕ) (size : ℕ) (x : Scan) : Type 0 where
-  pub scan : scan_from end_first s ≡ shifted size x
-  pub named : (k : Kind) (c : ℕ) → x ≡ ends k c → (0 < size) × (k ≡ closing) × (0 < c) × (size + c ≤ length s)

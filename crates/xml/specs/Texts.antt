@@ -1,16 +1,14 @@
 -- What a reader has still to tell, and a turn of it. Assumes nothing.
-use Rattle.std.specs.Prelude.{◌≡◌, ℕ, ◌+◌, ◌≤◌, Bool, false, cond, leb, List, [], ◌++◌, map, reverse, length, take, drop, Some, None, Ok, Err, Option, Result, nat_le}
-use Rattle.std.proofs.Common.{sym, ap, subst, arith, length-take}
+use Rattle.std.specs.Prelude.{◌≡◌, ℕ, ◌+◌, Bool, false, cond, leb, List, [], ◌++◌, map, reverse, length, drop, Some, None, Ok, Err, Option, Result, nat_le}
+use Rattle.std.proofs.Common.{sym, ap, subst}
 use Rattle.std.specs.Borrow.{Bor}
-use Rattle.std.proofs.lemmas.List.{length-map}
 use Rattle.std.specs.Option.{option_map}
+use Rattle.rows.specs.Rows.{items_of}
 use Rattle.vocabulary.specs.declared.faults.Fault.{Fault}
 use Rattle.vocabulary.specs.declared.faults.Question.TheVariants.{TextSize}
 use Rattle.vocabulary.specs.Faults.{fault}
-use Rattle.vocabulary.specs.declared.vocabularies.Vocabulary.{Vocabulary}
-use Rattle.vocabulary.specs.Limits.{most_names}
 use Rattle.vocabulary.specs.Readings.{names_of}
-use Rattle.vocabulary.specs.Tables as Tables
+use Rattle.vocabulary.proofs.Counts.{names_few}
 use Rattle.message.specs.declared.events.Event.{Event}
 use Rattle.message.specs.declared.events.Event.TheVariants.{Start, End}
 use Rattle.message.specs.Sources.{Ending, faulted, told, rest, counted, Wellformed}
@@ -24,8 +22,8 @@ use Rattle.xml.specs.Fields.{owed_events}
 use Rattle.xml.specs.Items.{cut}
 
 -- the names of the open elements, the innermost first
-abbrev pub names_at : List ℕ → List Span → ℕ → List (List ℕ)
-names_at m xs d = map (cut m) (reverse (take d xs))
+abbrev pub names_at : List ℕ → List Span → List (List ℕ)
+names_at m xs = map (cut m) (reverse xs)
 
 abbrev pub stand_at : List (List ℕ) → Bool → Stand
 stand_at ns o = record { names = ns; over = o }
@@ -44,8 +42,11 @@ bytes_of s = s.message.now
 abbrev pub codes_of : TextReader → List (List ℕ)
 codes_of s = names_of s.vocabulary.now
 
+abbrev pub open_names : TextReader → List (List ℕ)
+open_names s = names_at (bytes_of s) (items_of s.spans)
+
 abbrev pub stand_of : TextReader → Stand
-stand_of s = stand_at (names_at (bytes_of s) s.spans s.depth) s.over
+stand_of s = stand_at (open_names s) s.over
 
 -- the same of a reader whose message is not too long
 abbrev pub coming_of : TextReader → List Event
@@ -107,21 +108,13 @@ pub record Turn (s : TextReader) (r : Answer) (s' : TextReader) : Type 0 where
   pub latest : latest_of s' ≡ latest_after (bytes_of s) r (latest_of s)
   pub code : CodeOf (codes_of s) (bytes_of s) r
 
--- a vocabulary has few names
-names_few : (v : Vocabulary) → length (names_of v) ≤ most_names
-names_few v =
-    let h = v.rows.0 in
-    let l = length-map (take v.table.count v.table.lines) (Tables.cut v.text.now) in
-    let k = length-take v.table.count v.table.lines in
-    omega arith
-
 -- a reader of which nothing was taken is well formed
 pub sound_of : (s : TextReader) → taken_of s ≡ 0 → Wellformed (events_of s) (ending_of s)
 sound_of s z =
     let b = s.begun z in
     let m = bytes_of s in
     let voc = codes_of s in
-    let none : names_at m s.spans s.depth ≡ [] = ap (λ d. map (cut m) (reverse (take d s.spans))) b.1 in
+    let none : open_names s ≡ [] = ap (names_at m) b.1 in
     let st : stand_of s ≡ stand_at [] false = λ i. stand_at (none i) (b.2 i) in
     let es : coming_of s ≡ coming_at voc m None (stand_at [] false) 0 = λ i. coming_at voc m (b.3 i) (st i) (b.0 i) in
     let e : final_of s ≡ final_at voc m (stand_at [] false) 0 = λ i. final_at voc m (st i) (b.0 i) in

@@ -3,31 +3,32 @@ ghost use Rattle.std.specs.Prelude.{◌≡◌, ◌≤◌, length};
 ghost use Rattle.markup.specs.Readings.{most_text};
 ghost use Rattle.xml.specs.Seeks.{SoughtIn, SoughtTold};
 
-use super::items::{Piece, item};
+use super::items::{At, Piece};
 use vocabulary::Fault;
 
-// A start tag, an end tag, or the end of the message, at this place.
-#[derive(Clone, Copy)]
-pub(crate) enum Sought {
-    Start(usize),
-    End(usize),
-    Last(usize),
+// A start tag or an end tag, at this place.
+#[derive(Clone, Copy, Debug, PartialEq, Eq)]
+pub(crate) enum Sought<'a> {
+    Start(At<'a>),
+    End(At<'a>),
 }
 
-// What comes first from `start` on that is no text, comment or instruction.
-pub(crate) fn seek(message: &[u8], start: usize, inside: bool) -> Result<Sought, Fault>
+// The first tag from `start` on, where all before it is text, comments and instructions.
+pub(crate) fn seek(message: &[u8], start: usize, inside: bool) -> Result<Option<Sought>, Fault>
     requires within { start ≤ length message.now }
     requires small { length message.now ≤ most_text }
     ensures found { SoughtIn message.now start result }
     ensures told { SoughtTold message.now start inside result }
 {
     let mut place = start;
+    // What stands at a place says where the next begins, so no iterator counts here.
     while place < message.len() {
-        match item(message, place, inside)? {
+        let at = At { message, place };
+        match at.item(inside)? {
             Piece::Quiet(next) => place = next,
-            Piece::Start => return Ok(Sought::Start(place)),
-            Piece::End => return Ok(Sought::End(place)),
+            Piece::Start => return Ok(Some(Sought::Start(at))),
+            Piece::End => return Ok(Some(Sought::End(at))),
         }
     }
-    Ok(Sought::Last(place))
+    Ok(None)
 }

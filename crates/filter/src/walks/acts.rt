@@ -1,14 +1,15 @@
 // Opening and closing elements along a walk.
-ghost use Rattle.std.specs.Prelude.{◌≡◌, ℕ, suc, ◌+◌, ◌-◌, ◌%◌, ◌^◌, ◌<◌, ◌≤◌, true, false, ◌&&◌, List, [], ◌∷◌, ◌++◌, length, take, if◌then◌else◌, Decides, nat_lt, slice_index};
+ghost use Rattle.std.specs.Prelude.{◌≡◌, ℕ, suc, ◌+◌, ◌-◌, ◌%◌, ◌^◌, ◌<◌, ◌≤◌, false, ◌&&◌, [], ◌∷◌, ◌++◌, length, take, if◌then◌else◌, Decides, nat_lt, slice_index};
 ghost use Rattle.vocabulary.specs.Limits.{most_open, most_steps};
-ghost use Rattle.filter.specs.Embedding.{Embeds, OneMoreStep, reaches, embeds, fits, pick};
-ghost use Rattle.filter.specs.Masks.{column, newest, Columns};
+ghost use Rattle.filter.specs.Embedding.{Embeds, OneMoreStep, embeds, fits, pick};
+ghost use Rattle.filter.specs.Masks.{newest, Columns};
 ghost use Rattle.filter.specs.Walks.{steps_of, path_of};
 
 use super::super::filters::Filter;
 use super::super::steps::{Axis, Step};
 use super::Walk;
-use vocabulary::{MOST_OPEN, MOST_STEPS};
+use rows::Row;
+use vocabulary::MOST_STEPS;
 
 // Whether the bit of the depth `depth` is set, in a mask with no bit above it.
 fn is_newest(mask: u32, depth: usize) -> bool
@@ -30,6 +31,7 @@ fn takes(step: Step, code: u16, behind: bool, above: bool) -> bool
 }
 
 // The mask with the bit of the depth after `depth` as told.
+#[tactic(auto, using(crate::proofs::Bits::or_fresh))]
 fn marked(mask: u32, hit: bool, depth: usize) -> u32
     requires room { depth < most_open }
     requires clear { mask < 2 ^ depth }
@@ -38,22 +40,24 @@ fn marked(mask: u32, hit: bool, depth: usize) -> u32
     if hit { mask | (1u32 << depth) } else { mask }
 }
 
-// The masks one element deeper, whose code stands at `path[depth]`; and whether the whole filter embeds there.
-fn advance(filter: &Filter, path: &[u16], masks: &mut [u32], depth: usize) -> bool
-    requires room { depth < most_open }
-    requires path { length path.now ≡ most_open }
+// The masks with the element of this code below the path; and whether all the steps embed there.
+fn advance(steps: &[Step], path: &[u16], code: u16, masks: &mut [u32]) -> bool
+    requires some { 0 < length steps.now }
+    requires few { length steps.now ≤ most_steps }
+    requires room { length path.now < most_open }
     requires masks { length masks.old ≡ most_steps }
-    requires before { Columns filter.now path.now masks.old depth }
-    ensures answer { result ≡ reaches filter.now.steps path.now filter.now.count (suc depth) }
-    ensures after { Columns filter.now path.now masks.new (suc depth) }
+    requires before { Columns steps.now path.now masks.old (length path.now) }
+    ensures answer { result ≡ embeds steps.now (path.now ++ code ∷ []) }
+    ensures after { Columns steps.now (path.now ++ code ∷ []) masks.new (suc (length path.now)) }
 {
-    let code = path[depth];
+    let depth = path.len();
     let mut behind = depth == 0;
     let mut above = true;
     let mut hit = false;
-    for k in 0..filter.count {
+    // Not a zip with iter_mut, which tells a proof nothing of what is written.
+    for (k, step) in steps.iter().enumerate() {
         let mask = masks[k];
-        hit = takes(filter.steps[k], code, behind, above);
+        hit = takes(*step, code, behind, above);
         behind = is_newest(mask, depth);
         above = mask != 0;
         masks[k] = marked(mask, hit, depth);
@@ -68,7 +72,7 @@ fn retreat(masks: &mut [u32], depth: usize)
 {
     let kept = (1u32 << depth) - 1;
     for mask in masks.iter_mut() {
-        *mask = *mask & kept;
+        *mask &= kept;
     }
 }
 
@@ -80,12 +84,12 @@ impl Walk {
         Walk {
             filter: *filter,
             masks: [0; MOST_STEPS],
-            path: [0; MOST_OPEN],
-            depth: 0,
+            path: Row::new(),
         }
     }
 
     // Opens an element, and answers whether the filter embeds at it; with `MOST_OPEN` open nothing happens.
+    #[tactic(auto, using(crate::proofs::Depths::one_more_step))]
     pub fn start(&mut self, code: u16) -> bool
         ensures answer { result ≡ (if nat_lt (length (path_of self.old)) most_open then embeds (steps_of self.old.filter) (path_of self.old ++ code ∷ []) else false) }
         ensures path { path_of self.new ≡ (if nat_lt (length (path_of self.old)) most_open then path_of self.old ++ code ∷ [] else path_of self.old) }
@@ -93,13 +97,16 @@ impl Walk {
         ensures rule { length (path_of self.old) < most_open → Decides result (Embeds (steps_of self.old.filter) (path_of self.old ++ code ∷ [])) }
         ensures theorem { OneMoreStep }
     {
-        let depth = self.depth;
-        if depth >= MOST_OPEN {
+        if self.path.is_full() {
             return false;
         }
-        self.path[depth] = code;
-        let hit = advance(&self.filter, &self.path, &mut self.masks, depth);
-        self.depth = depth + 1;
+        let hit = advance(
+            self.filter.steps(),
+            self.path.as_slice(),
+            code,
+            &mut self.masks,
+        );
+        self.path.push(code).unwrap();
         hit
     }
 
@@ -108,9 +115,8 @@ impl Walk {
         ensures path { path_of self.new ≡ take (length (path_of self.old) - 1) (path_of self.old) }
         ensures filter { self.new.filter ≡ self.old.filter }
     {
-        if self.depth > 0 {
-            self.depth -= 1;
-            retreat(&mut self.masks, self.depth);
-        }
+        self.path.pop();
+        let depth = self.path.len();
+        retreat(&mut self.masks, depth);
     }
 }

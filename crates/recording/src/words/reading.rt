@@ -1,72 +1,36 @@
 // Reading a recording word by word.
-ghost use Rattle.std.specs.Prelude.{◌≡◌, ◌+◌, ◌<◌, ◌≤◌, false, length};
-ghost use Rattle.message.specs.Sources.{last_told};
+ghost use Rattle.std.specs.Prelude.{◌≡◌, ◌+◌, ◌<◌, ◌≤◌, length};
+ghost use Rattle.recording.specs.Kinds.{word_of};
 ghost use Rattle.recording.specs.Laws.{Fitting};
 ghost use Rattle.recording.specs.Recordings.{events_of, ending_of, taken_of, sound_of};
 ghost use Rattle.recording.specs.Replays.{Faithful};
-ghost use Rattle.recording.specs.Words.{most_words, said, last_ending, depth_after, over_after, word_events, word_ending};
+ghost use Rattle.recording.specs.Words.{most_words, said, depth_after, over_after, word_events, word_ending};
 
-use super::{MOST_WORDS, Recording};
-use message::{Event, Source};
+use super::{MOST_WORDS, Recording, Word};
+use message::{Event, Source, conclude};
 use vocabulary::{Fault, MOST_NAMES, MOST_OPEN, Question};
 
-// What a word tells, where `depth` elements are open and `over` says whether the root has ended.
-fn say(place: u32, depth: usize, over: bool, word: u16) -> Result<Event, Fault>
-    ensures { result ≡ said place depth over word }
-{
-    if word as usize > MOST_NAMES + 1 {
-        return Err(Fault {
-            question: Question::WordTooGreat,
-            place,
-        });
-    }
-    if word == 0 {
-        if depth == 0 {
-            return Err(Fault {
-                question: Question::WordNoneOpen,
-                place,
-            });
-        }
-        return Ok(Event::End { place });
-    }
-    if over {
-        return Err(Fault {
-            question: Question::WordAfterRoot,
-            place,
-        });
-    }
-    if depth >= MOST_OPEN {
-        return Err(Fault {
-            question: Question::WordTooDeep,
-            place,
-        });
-    }
-    Ok(Event::Start {
-        code: word - 1,
-        place,
-    })
-}
+impl TryFrom<u16> for Word {
+    type Error = Question;
 
-// What is told after the last word.
-fn finish(place: u32, over: bool) -> Result<Option<Event>, Fault>
-    ensures { result ≡ last_told (last_ending place over) }
-{
-    if !over {
-        return Err(Fault {
-            question: Question::RecordingNotEnded,
-            place,
-        });
+    ghost try_from_gives = { λ word result. result ≡ word_of word };
+
+    fn try_from(word: u16) -> Result<Word, Question> {
+        match word {
+            0 => Ok(Word::End),
+            _ if usize::from(word) <= MOST_NAMES + 1 => Ok(Word::Start(word - 1)),
+            _ => Err(Question::WordTooGreat),
+        }
     }
-    Ok(None)
 }
 
 impl<'a> Recording<'a> {
-    // The words, of which none was read.
-    fn unread(words: &'a [u16]) -> Recording<'a>
-        ensures words { result.words.now ≡ words.now }
-        ensures at { result.at ≡ 0 }
-        ensures depth { result.depth ≡ 0 }
-        ensures over { result.over ≡ false }
+    // The recording of these words, from its beginning.
+    pub fn new(words: &'a [u16]) -> Recording<'a>
+        ensures events { events_of result ≡ word_events words.now }
+        ensures ending { ending_of result ≡ word_ending words.now }
+        ensures taken { taken_of result ≡ 0 }
+        ensures theorem { Faithful }
     {
         Recording {
             words,
@@ -76,22 +40,29 @@ impl<'a> Recording<'a> {
         }
     }
 
-    // The recording of these words, from its beginning.
-    pub fn new(words: &'a [u16]) -> Recording<'a>
-        ensures events { events_of result ≡ word_events words.now }
-        ensures ending { ending_of result ≡ word_ending words.now }
-        ensures taken { taken_of result ≡ 0 }
-        ensures theorem { Faithful }
-    {
-        Recording::unread(words)
-    }
-
     // The place of the next word.
     fn place(&self) -> u32
         requires { self.now.at ≤ most_words }
         ensures { result ≡ self.now.at + 1 }
     {
+        // it fits, and so there is no TryFrom: a recording that is read has few words
         (self.at + 1) as u32
+    }
+
+    // What the next word tells.
+    fn tell(&self, word: u16) -> Result<Event, Fault>
+        requires { self.now.at ≤ most_words }
+        ensures { result ≡ said (self.now.at + 1) self.now.depth self.now.over word }
+    {
+        let place = self.place();
+        match Word::try_from(word) {
+            Err(question) => Err(question.at(place)),
+            Ok(Word::End) if self.depth == 0 => Err(Question::WordNoneOpen.at(place)),
+            Ok(Word::End) => Ok(Event::End { place }),
+            Ok(Word::Start(_)) if self.over => Err(Question::WordAfterRoot.at(place)),
+            Ok(Word::Start(_)) if self.depth >= MOST_OPEN => Err(Question::WordTooDeep.at(place)),
+            Ok(Word::Start(code)) => Ok(Event::Start { code, place }),
+        }
     }
 
     // Goes past the word that told the event.
@@ -105,9 +76,7 @@ impl<'a> Recording<'a> {
     {
         self.at += 1;
         match event {
-            Event::Start { .. } => {
-                self.depth += 1;
-            }
+            Event::Start { .. } => self.depth += 1,
             Event::End { .. } => {
                 self.over = self.depth == 1;
                 self.depth -= 1;
@@ -127,15 +96,12 @@ impl<'a> Source for Recording<'a> {
 
     fn next(&mut self) -> Result<Option<Event>, Fault> {
         if self.words.len() > MOST_WORDS {
-            return Err(Fault {
-                question: Question::RecordingSize,
-                place: 0,
-            });
+            return Err(Question::RecordingSize.at(0));
         }
-        if self.at >= self.words.len() {
-            return finish(self.place(), self.over);
-        }
-        let event = say(self.place(), self.depth, self.over, self.words[self.at])?;
+        let Some(word) = self.words.get(self.at) else {
+            return conclude(self.over, Question::RecordingNotEnded.at(self.place()));
+        };
+        let event = self.tell(*word)?;
         self.pass(event);
         Ok(Some(event))
     }
@@ -151,47 +117,47 @@ mod tests {
     use message::{Event, Source};
     use std::test::Fail;
 
-    // How many events the words tell, and the number and the place of the fault after them, 0 and 0 where there is none.
-    fn read(words: &[u16]) -> (usize, u8, u32) {
+    // How many events the words tell, and the number and the place of the fault after them, if there is one.
+    fn read(words: &[u16]) -> (usize, Option<(u8, u32)>) {
         let mut recording = Recording::new(words);
         for count in 0..=words.len() {
             match recording.next() {
                 Ok(Some(_)) => {}
-                Ok(None) => return (count, 0, 0),
-                Err(fault) => return (count, fault.question.number(), fault.place),
+                Ok(None) => return (count, None),
+                Err(fault) => return (count, Some((u8::from(fault.question), fault.place))),
             }
         }
-        (0, 0, 0)
+        (0, None)
     }
 
     #[test]
     fn endings(rt: HostRuntime) {
-        assert_eq!(rt; read(&[]), (0, 46, 1));
-        assert_eq!(rt; read(&[0]), (0, 45, 1));
-        assert_eq!(rt; read(&[1]), (1, 46, 2));
-        assert_eq!(rt; read(&[1, 0]), (2, 0, 0));
-        assert_eq!(rt; read(&[1, 0, 0]), (2, 45, 3));
-        assert_eq!(rt; read(&[1, 0, 1]), (2, 43, 3));
-        assert_eq!(rt; read(&[1, 0, 514]), (2, 42, 3));
-        assert_eq!(rt; read(&[513, 0]), (2, 0, 0));
-        assert_eq!(rt; read(&[514, 0]), (0, 42, 1));
+        assert_eq!(rt; read(&[]), (0, Some((46, 1))));
+        assert_eq!(rt; read(&[0]), (0, Some((45, 1))));
+        assert_eq!(rt; read(&[1]), (1, Some((46, 2))));
+        assert_eq!(rt; read(&[1, 0]), (2, None));
+        assert_eq!(rt; read(&[1, 0, 0]), (2, Some((45, 3))));
+        assert_eq!(rt; read(&[1, 0, 1]), (2, Some((43, 3))));
+        assert_eq!(rt; read(&[1, 0, 514]), (2, Some((42, 3))));
+        assert_eq!(rt; read(&[513, 0]), (2, None));
+        assert_eq!(rt; read(&[514, 0]), (0, Some((42, 1))));
     }
 
     #[test]
     fn depth(rt: HostRuntime) -> Result<(), Fail> {
         let mut words = vec![in rt.alloc(); 1; 32]?;
         words.resize(64, 0)?;
-        assert_eq!(rt; read(&words), (64, 0, 0));
-        assert_eq!(rt; read(&[1; 33]), (32, 44, 33));
+        assert_eq!(rt; read(&words), (64, None));
+        assert_eq!(rt; read(&[1; 33]), (32, Some((44, 33))));
         Ok(())
     }
 
     #[test]
     fn size(rt: HostRuntime) -> Result<(), Fail> {
         let mut words = vec![in rt.alloc(); 0; MOST_WORDS]?;
-        assert_eq!(rt; read(&words), (0, 45, 1));
+        assert_eq!(rt; read(&words), (0, Some((45, 1))));
         words.push(0)?;
-        assert_eq!(rt; read(&words), (0, 41, 0));
+        assert_eq!(rt; read(&words), (0, Some((41, 0))));
         Ok(())
     }
 

@@ -2,16 +2,17 @@
 ghost use Rattle.std.specs.Prelude.{◌≡◌, ◌<◌, ◌≤◌, [], length, IfSome};
 ghost use Rattle.std.specs.Option.{option_map};
 ghost use Rattle.std.specs.List.{prefix_len};
+ghost use Rattle.std.specs.Result.{result_map_both, result_unwrap_or};
 ghost use Rattle.vocabulary.specs.Limits.{most_name_bytes};
 ghost use Rattle.vocabulary.specs.Names.{code_of, IsCode, name_of};
-ghost use Rattle.vocabulary.specs.Readings.{names_after, names_of, verdict};
-ghost use Rattle.vocabulary.specs.Tables.{names_in, Chains, Rows, TableRead};
-ghost use Rattle.vocabulary.specs.Vocabularies.{Accepts, admitted, is_in_line, LineRead, most_bytes, read_names};
+ghost use Rattle.vocabulary.specs.Readings.{names_of, verdict};
+ghost use Rattle.vocabulary.specs.Tables.{names_in};
+ghost use Rattle.vocabulary.specs.Vocabularies.{Accepts, admitted, is_in_line, LineRead, most_bytes, read_lines, read_names};
 
 use super::super::faults::{Fault, Question};
 use super::super::limits::{MOST_NAME_BYTES, MOST_NAMES};
 use super::super::names::is_short_name;
-use super::super::tables::{Table, from, part};
+use super::super::tables::Table;
 use super::Vocabulary;
 
 // The bytes of a vocabulary at most.
@@ -22,74 +23,68 @@ fn line_len(rest: &[u8]) -> usize
     ensures answer { result ≡ prefix_len is_in_line rest.now }
     ensures within { result ≤ length rest.now }
 {
-    let mut n = 0;
-    while n < rest.len() && rest[n] != b'\n' {
-        n += 1;
-    }
-    n
+    rest.iter().take_while(|byte| **byte != b'\n').count()
 }
 
 // Whether the name, whose line begins at `place`, may follow those of the table.
-fn admit(table: &Table, text: &[u8], name: &[u8], place: u32) -> Result<(), Fault>
-    requires rows { Rows text.now table.now }
-    requires chains { Chains text.now table.now }
-    ensures answer { result ≡ admitted (names_in text.now table.now) place name.now }
+fn admit(table: &Table, name: &[u8], place: u32) -> Result<(), Fault>
+    ensures answer { result ≡ admitted (names_in table.now) place name.now }
 {
     if !is_short_name(name) {
-        return Err(Fault {
-            question: Question::LineNotName,
-            place,
-        });
+        return Err(Question::LineNotName.at(place));
     }
-    if table.count >= MOST_NAMES {
-        return Err(Fault {
-            question: Question::TooManyNames,
-            place,
-        });
+    if table.len() >= MOST_NAMES {
+        return Err(Question::TooManyNames.at(place));
     }
-    if table.code_of(text, name).is_some() {
-        return Err(Fault {
-            question: Question::NameTwice,
-            place,
-        });
+    if table.code_of(name).is_some() {
+        return Err(Question::NameTwice.at(place));
     }
     Ok(())
 }
 
-// Takes the line that begins at `place` into the table, and answers where the next one begins.
-fn take_line(table: &mut Table, text: &[u8], place: usize) -> Result<usize, Fault>
-    requires rows { Rows text.now table.old }
-    requires chains { Chains text.now table.old }
-    requires within { place < length text.now }
-    requires small { length text.now ≤ most_bytes }
-    ensures rows { Rows text.now table.new }
-    ensures chains { Chains text.now table.new }
-    ensures answer { LineRead text.now place (names_in text.now table.old) (names_in text.now table.new) result }
+// Takes the first line of `rest`, which begins at `place`, into the table, and answers what comes after it.
+fn take_line<'a>(table: &mut Table<'a>, rest: &'a [u8], place: u32) -> Result<&'a [u8], Fault>
+    requires some { 0 < length rest.now }
+    ensures answer { LineRead rest.now place (names_in table.old) (names_in table.new) result }
 {
-    let rest = from(text, place);
     let len = line_len(rest);
     if len == rest.len() {
-        return Err(Fault {
-            question: Question::LineNotEnded,
-            place: place as u32,
-        });
+        return Err(Question::LineNotEnded.at(place));
     }
-    admit(table, text, part(text, place, place + len), place as u32)?;
-    table.add(text, place as u16, (place + len) as u16);
-    Ok(place + len + 1)
+    let (name, after) = rest.split_at(len);
+    admit(table, name, place)?;
+    table.add(name);
+    Ok(&after[1..])
 }
 
 // The table of all lines of the text.
-fn read_lines(text: &[u8]) -> Result<Table, Fault>
+fn read_lines(text: &[u8]) -> Result<Table<'_>, Fault>
     requires small { length text.now ≤ most_bytes }
-    ensures answer { TableRead text.now result }
+    ensures answer { result_map_both names_in (λ f. f) result ≡ read_lines [] 0 [] text.now }
 {
-    let mut table = Table::new(text);
-    let mut place = 0;
-    while place < text.len() {
-        place = take_line(&mut table, text, place)?;
+    let mut table = Table::new();
+    let mut rest = text;
+    while !rest.is_empty() {
+        // it fits into 32 bits: no text that is read has more than 16,384 bytes
+        let place = text.len() - rest.len();
+        rest = take_line(&mut table, rest, place as u32)?;
     }
     Ok(table)
+}
+
+// The vocabulary of a text, or the text's first fault.
+impl<'a> TryFrom<&'a [u8]> for Vocabulary<'a> {
+    type Error = Fault;
+
+    ghost try_from_gives = { λ text result. result_map_both names_of (λ f. f) result ≡ read_names text.now };
+
+    fn try_from(text: &'a [u8]) -> Result<Vocabulary<'a>, Fault> {
+        if text.is_empty() || text.len() > MOST_BYTES {
+            return Err(Question::VocabularySize.at(0));
+        }
+        let table = read_lines(text)?;
+        Ok(Vocabulary { text, table })
+    }
 }
 
 impl<'a> Vocabulary<'a> {
@@ -97,27 +92,19 @@ impl<'a> Vocabulary<'a> {
     pub fn new() -> Vocabulary<'a>
         ensures answer { names_of result ≡ [] }
     {
-        let text: &[u8] = &[];
         Vocabulary {
-            text,
-            table: Table::new(text),
+            text: &[],
+            table: Table::new(),
         }
     }
 
     // Takes the names of the text in place of its own, or answers the first fault and stays as it is.
     pub fn read(&mut self, text: &'a [u8]) -> Result<(), Fault>
         ensures answer { result ≡ verdict (read_names text.now) }
-        ensures after { names_of self.new ≡ names_after (read_names text.now) (names_of self.old) }
+        ensures after { names_of self.new ≡ result_unwrap_or (read_names text.now) (names_of self.old) }
         ensures theorem { Accepts }
     {
-        if text.is_empty() || text.len() > MOST_BYTES {
-            return Err(Fault {
-                question: Question::VocabularySize,
-                place: 0,
-            });
-        }
-        let table = read_lines(text)?;
-        *self = Vocabulary { text, table };
+        *self = Vocabulary::try_from(text)?;
         Ok(())
     }
 
@@ -125,7 +112,7 @@ impl<'a> Vocabulary<'a> {
     pub fn len(&self) -> usize
         ensures answer { result ≡ length (names_of self.now) }
     {
-        self.table.count
+        self.table.len()
     }
 
     // The code of a name, from 1; none where it is not in the vocabulary.
@@ -136,7 +123,7 @@ impl<'a> Vocabulary<'a> {
         if name.len() > MOST_NAME_BYTES {
             return None;
         }
-        self.table.code_of(self.text, name)
+        self.table.code_of(name)
     }
 
     // The name of a code; none where no line has it.
@@ -144,10 +131,10 @@ impl<'a> Vocabulary<'a> {
         ensures answer { option_map (λ x. x.now) result ≡ name_of (names_of self.now) code }
         ensures short { IfSome result (λ name. length name.now ≤ most_name_bytes) }
     {
-        let code = code as usize;
-        if code == 0 || code > self.table.count {
+        let code = usize::from(code);
+        if code == 0 || code > self.table.len() {
             return None;
         }
-        Some(self.table.name(self.text, code - 1))
+        Some(self.table.name(code - 1))
     }
 }

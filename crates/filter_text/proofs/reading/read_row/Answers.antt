@@ -1,31 +1,32 @@
-use Rattle.std.proofs.Common.{◌-◌, ◌<◌, length, take, Err, sym, ap, ◌∙◌, subst, arith, length-set, true-eqb, false-eqb}
-use Rattle.std.proofs.lemmas.List.{take_more_set}
-use Rattle.std.proofs.lemmas.Result.{err_from_is_err_and}
+use Rattle.std.proofs.Common.{◌-◌, ◌<◌, length, sym, arith, false-eqb}
+use Rattle.std.proofs.lemmas.Grind.{common_steps}
 use Rattle.vocabulary.specs.Readings.{names_of}
-use Rattle.filter_text.specs.Reads.{RowRead}
+use Rattle.rows.specs.Rows.{items_of}
+use Rattle.rows.proofs.Items.{items_few}
+use Rattle.filter_text.specs.Reads.{read_from}
 use Rattle.filter_text.proofs.Turns.{done, onward, stopped}
 use Rattle.filter_text.proofs.reading.read_row.Goals as goal
 
+pub loop-rest-init : goal.loop-rest-init
+loop-rest-init c =
+    let fresh = c.new-steps.ensures.items in
+    (omega arith, λ i. read_from (names_of c.args.vocabulary.now) (8 - length (fresh i)) (fresh i) 0 c.args.text.now)
+
 pub returns-in_err-step : goal.returns-in_err-step
 returns-in_err-step c =
-    let p = err_from_is_err_and c.from_residual.result c.from_residual.ensures.1 in
-    let some : 0 < length c.loop-rest.rest.now = omega (arith, false-eqb _ 0 c.loop-rest-test.ensures) in
-    let e = stopped (names_of c.args.vocabulary.now) c.loop-rest.count (omega arith) (take c.loop-rest.count c.loop-rest.steps) c.loop-rest.place _ _ some c.in_err-step.ensures.answer in
-    record { answer = subst (RowRead (names_of c.args.vocabulary.now) c.args.text.now) (sym (p.1 ∙ ap (λ f. Err f) p.2)) (sym c.loop-rest.invariant.3 ∙ e) }
+    let some : 0 < length c.loop-rest.rest.0.now = omega (arith, false-eqb _ 0 c.loop-rest-test.ensures) in
+    let room : length (items_of c.loop-rest.steps) < 8 = omega (arith, items_few c.loop-rest.steps, false-eqb _ 8 c.if-is_full.ensures.value) in
+    let e = stopped (names_of c.args.vocabulary.now) (items_of c.loop-rest.steps) room _ _ _ some (sym c.in_err-step.ensures.answer) in
+    let read = c.loop-rest.invariant.1 in
+    grind (arith, common_steps)
 
 pub loop-rest-preserved : goal.loop-rest-preserved
 loop-rest-preserved c =
-    let some : 0 < length c.loop-rest.rest.now = omega (arith, false-eqb _ 0 c.loop-rest-test.ensures) in
-    let told = c.in_ok-step.ensures in
-    let e = onward (names_of c.args.vocabulary.now) c.loop-rest.count (omega arith) (take c.loop-rest.count c.loop-rest.steps) c.loop-rest.place _ _ _ some told.answer in
-    let more = take_more_set c.loop-rest.steps c.loop-rest.count c.in_ok-step.step (omega arith) in
-    (omega arith, simp length-set c.loop-rest.invariant.1, omega (arith, told.shorter), rw more (sym e ∙ c.loop-rest.invariant.3))
+    let few = items_few c.loop-rest.steps in
+    let within = c.loop-rest.invariant.0 in
+    let less = c.in_ok-step.ensures.shorter in
+    let place = c.in_ok-step.ensures.place in
+    (omega arith, grind (arith, common_steps, onward))
 
 pub returns : goal.returns
-returns c = record {
-  answer = (
-    sym c.loop-rest.invariant.3 ∙ done (names_of c.args.vocabulary.now) (8 - c.loop-rest.count) (take c.loop-rest.count c.loop-rest.steps) c.loop-rest.place c.loop-rest.rest.now (true-eqb _ 0 c.loop-rest-test.ensures),
-    c.loop-rest.invariant.0,
-    c.loop-rest.invariant.1,
-  );
-}
+returns c = record { answer = grind (arith, common_steps, done) }

@@ -1,5 +1,5 @@
 use Rattle.std.proofs.Common.{◌≡◌, ◌*◌, ◌≤◌, drop}
-use Rattle.vocabulary.specs.Tables.{weighed}
+use Rattle.vocabulary.specs.Entries.{weighed}
 use Rattle.vocabulary.proofs.tables.bucket_of.Given as goal
 
 abbrev pub invariant-loop-i : goal.invariant-loop-i

@@ -1,18 +1,14 @@
 -- Each item that is passed, and what comes first. Assumes nothing.
 use Rattle.std.proofs.Common.{◌≡◌, ℕ, ◌<◌, Bool, not, List, length, drop, Ok, Err, Result, sym, refl, ap, ◌∙◌, subst, arith}
-use Rattle.std.proofs.lemmas.List.{drop_all}
-use Rattle.std.proofs.lemmas.Result.{err_from_is_err_and}
 use Rattle.vocabulary.specs.declared.faults.Fault.{Fault}
-use Rattle.markup.specs.Readings.{Stand, between, is_empty, events_from, ending_from}
+use Rattle.markup.specs.Readings.{Stand, is_empty}
 use Rattle.xml.specs.declared.items.Piece.{Piece}
 use Rattle.xml.specs.declared.items.Piece.TheVariants.{Quiet, Start, End}
 use Rattle.xml.specs.Items.{item_of}
 use Rattle.xml.specs.Seeks.{SoughtIn, SoughtTold}
+use Rattle.xml.proofs.Refusals.{handed_on}
 use Rattle.xml.proofs.Quiet.{Facts, Told, facts, told, angle_events, angle_ending}
 use Rattle.xml.proofs.seeking.seek.Goals as goal
-
-pub loop-place-init : goal.loop-place-init
-loop-place-init c = (omega arith, c.requires.within, λ voc st h. (refl, refl))
 
 module _ (m : List ℕ) (n : ℕ) (inside : Bool) (lt : n < length m) (x : Result Piece Fault) (at : x ≡ item_of inside n (drop n m)) where
   known : Facts m n x
@@ -35,14 +31,6 @@ loop-place-preserved c =
       λ voc st h. let t = tells m n inside lt (Ok (Quiet c.in-Quiet.next)) at voc st h in let i = inv.2 voc st h in (i.0 ∙ t.0, i.1 ∙ t.1),
     )
 
-pub loop-place-smaller : goal.loop-place-smaller
-loop-place-smaller c =
-    let m = c.args.message.now in
-    let n = c.loop-place.place in
-    let at = ap (λ x. Ok x) (sym c.in-Quiet.is) ∙ c.in_ok-next.ensures.answer in
-    let f = known m n c.args.inside c.loop-place-test.true (Ok (Quiet c.in-Quiet.next)) at in
-    omega arith
-
 pub returns-in-Start : goal.returns-in-Start
 returns-in-Start c =
     let m = c.args.message.now in
@@ -53,7 +41,7 @@ returns-in-Start c =
     let f = known m n inside lt (Ok Start) at in
     let inv = c.loop-place.invariant in
     record {
-      found = (inv.0, f.1, f.2);
+      found = (refl, inv.0, f.2);
       told = λ voc st h. let i = inv.2 voc st h in (i.0 ∙ angle_events m n lt voc st f.0, i.1 ∙ angle_ending m n lt voc st f.0);
     }
 
@@ -67,7 +55,7 @@ returns-in-End c =
     let f = known m n inside lt (Ok End) at in
     let inv = c.loop-place.invariant in
     record {
-      found = (inv.0, f.1, f.2);
+      found = (refl, inv.0, record { within = f.1; slashed = f.2 });
       told = λ voc st h. let i = inv.2 voc st h in (i.0 ∙ angle_events m n lt voc st f.0, i.1 ∙ angle_ending m n lt voc st f.0);
     }
 
@@ -77,24 +65,11 @@ returns-in_err-next c =
     let n = c.loop-place.place in
     let inside = c.args.inside in
     let q = c.in_err-next.field-0.0 in
-    let r = err_from_is_err_and c.from_residual.result c.from_residual.ensures.1 in
-    let e = r.1 ∙ ap Err r.2 in
+    let e = handed_on c.from_residual.result c.from_residual.ensures.1 in
     let inv = c.loop-place.invariant in
     record {
       found = subst (SoughtIn m c.args.start) (sym e) tt;
       told = subst (SoughtTold m c.args.start inside) (sym e) (λ voc st h.
           let t = tells m n inside c.loop-place-test.true (Err q) c.in_err-next.ensures.answer voc st h in
           let i = inv.2 voc st h in (i.0 ∙ t.0, i.1 ∙ t.1));
-    }
-
-pub returns : goal.returns
-returns c =
-    let m = c.args.message.now in
-    let n = c.loop-place.place in
-    let inv = c.loop-place.invariant in
-    let past = c.loop-place-test.false in
-    let d = drop_all n m past in
-    record {
-      found = omega arith;
-      told = λ voc st h. let i = inv.2 voc st h in (i.0 ∙ ap (events_from voc (between st) n) d, i.1 ∙ ap (ending_from voc (between st) n) d);
     }

@@ -1,50 +1,35 @@
-use Rattle.std.proofs.Common.{◌-◌, ◌<◌, get_or, ap, ◌∙◌, arith}
-use Rattle.std.specs.Str.{bytes_eq}
-use Rattle.vocabulary.specs.Tables.{latest, names_in, no_line}
-use Rattle.vocabulary.proofs.Buckets.{Looking, looking_first, looking_found, looking_next, looking_none}
-use Rattle.vocabulary.proofs.Lines.{length_names}
+use Rattle.rows.specs.Rows.{items_of}
+use Rattle.std.proofs.Common.{◌-◌, ◌<◌, [], None, length, get_or, sym, ap, ◌∙◌, subst, arith}
+use Rattle.std.specs.Option.{unwrap_or}
+use Rattle.vocabulary.specs.declared.tables.Entry.{Entry}
+use Rattle.vocabulary.specs.Entries.{latest}
+use Rattle.vocabulary.specs.Tables.{names_in}
+use Rattle.vocabulary.proofs.Buckets.{Looking, looking_first}
+use Rattle.vocabulary.proofs.Entries.{count_names, entry_passed}
 use Rattle.vocabulary.proofs.tables.Table.code_of.Goals as goal
 
-pub loop-code-init : goal.loop-code-init
-loop-code-init c =
+-- past the last entry, never looked at
+abbrev no_entry : Entry
+no_entry = record { name = record { ref_ptr = (0, 0); now = [] }; before = None }
+
+pub loop-next-init : goal.loop-next-init
+loop-next-init c =
     let t = c.args.self.now in
-    let text = c.args.text.now in
     let b = c.bucket_of.ensures.answer in
-    looking_first (names_in text t) c.args.name.now t.count (length_names text t c.requires.rows) _
-    (c.requires.chains.0 c.bucket_of.result c.bucket_of.ensures.within ∙ ap (λ h. latest (names_in text t) h t.count) b)
+    looking_first (names_in t) c.args.name.now _
+    (t.headed c.bucket_of.result c.bucket_of.ensures.within ∙ ap (λ h. latest (names_in t) h (length (items_of t.entries))) b ∙ ap (latest (names_in t) _) (sym (count_names (items_of t.entries))))
 
-pub name-requires : goal.name-requires
-name-requires c =
-    let low = c.loop-code.invariant.0 in
-    let some = c.loop-code-test.true in
-    record { rows = c.requires.rows; within = omega arith }
+pub overflow_sub-entry : goal.overflow_sub-entry
+overflow_sub-entry c = let k = c.loop-next.invariant.known c.in-Some.code c.in-Some.is in let e = c.from.ensures in omega arith
 
-pub returns-then-is_same_name : goal.returns-then-is_same_name
-returns-then-is_same_name c =
-    let t = c.args.self.now in
-    let text = c.args.text.now in
-    record {
-      answer = looking_found (names_in text t) c.args.name.now t.count (length_names text t c.requires.rows) c.loop-code.code c.loop-code-test.true c.loop-code.invariant
-          (c.if-is_same_name.ensures.answer ∙ ap (λ n. bytes_eq n c.args.name.now) c.name.ensures.answer);
-    }
-
-next : (c : goal.After-way_told-in-loop-code-1) → ((get_or c.args.self.now.lines (c.loop-code.code - 1) no_line).next < c.loop-code.code) × Looking (names_in c.args.text.now c.args.self.now) c.args.name.now c.args.self.now.count (get_or c.args.self.now.lines (c.loop-code.code - 1) no_line).next
+next : (c : goal.Else-is_same_name) → (unwrap_or (get_or c.as_slice.result.now (c.from.result - 1) no_entry).before 0 < c.in-Some.code) × Looking (names_in c.args.self.now) c.args.name.now (get_or c.as_slice.result.now (c.from.result - 1) no_entry).before
 next c =
     let t = c.args.self.now in
-    let text = c.args.text.now in
-    let low = c.loop-code.invariant.0 in
-    let some = c.loop-code-test.true in
-    looking_next (names_in text t) c.args.name.now t.count (length_names text t c.requires.rows) c.loop-code.code some c.loop-code.invariant
-    (c.if-is_same_name.ensures.answer ∙ ap (λ n. bytes_eq n c.args.name.now) c.name.ensures.answer) _ (c.requires.chains.1 (c.loop-code.code - 1) (omega arith))
+    entry_passed (items_of t.entries) _ c.as_slice.ensures.items c.args.name.now c.in-Some.code c.from.result c.from.ensures no_entry
+    (subst (Looking (names_in t) c.args.name.now) c.in-Some.is c.loop-next.invariant) t.linked c.if-is_same_name.ensures.answer
 
-pub loop-code-smaller : goal.loop-code-smaller
-loop-code-smaller c = (next c).0
+pub loop-next-smaller : goal.loop-next-smaller
+loop-next-smaller c = let n = (next c).0 in let e = ap (λ o. unwrap_or o 0) c.in-Some.is in omega arith
 
-pub loop-code-preserved : goal.loop-code-preserved
-loop-code-preserved c = (next c).1
-
-pub returns : goal.returns
-returns c =
-    let t = c.args.self.now in
-    let text = c.args.text.now in
-    record { answer = looking_none (names_in text t) c.args.name.now t.count (length_names text t c.requires.rows) c.loop-code.code (omega arith) c.loop-code.invariant }
+pub loop-next-preserved : goal.loop-next-preserved
+loop-next-preserved c = (next c).1

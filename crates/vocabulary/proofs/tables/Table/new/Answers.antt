@@ -1,10 +1,10 @@
-use Rattle.std.proofs.Common.{refl, arith}
-use Rattle.std.proofs.lemmas.List.{get_or-replicate}
+use Rattle.rows.specs.Rows.{items_of}
+use Rattle.std.proofs.Common.{refl}
+use Rattle.vocabulary.proofs.Entries.{short_none, heads_none, links_none}
 use Rattle.vocabulary.proofs.tables.Table.new.Goals as goal
 
-pub returns : goal.returns
-returns c = record {
-  rows = (omega arith, refl, refl, (λ k h. absurd (omega arith)), λ k h. absurd (omega arith));
-  chains = ((λ h l. get_or-replicate 512 h 0 0 l), λ k h. absurd (omega arith));
-  names = refl;
-}
+pub invariant_of-result : goal.invariant_of-result
+invariant_of-result c =
+    let es = items_of c.new.result in
+    let none = c.new.ensures.items in
+    record { short = short_none es none; whole = refl; headed = heads_none es none; linked = links_none es none }

@@ -1,43 +1,26 @@
 -- The innermost open name, met at once. Assumes nothing.
-use Rattle.std.proofs.Common.{◌≡◌, ◌+◌, ◌-◌, [], ◌∷◌, ◌++◌, length, get_or, drop, sym, ap, ◌∙◌, arith}
-use Rattle.vocabulary.specs.Names.{name_size}
-use Rattle.xml.specs.declared.items.Span.{Span}
+use Rattle.std.proofs.Common.{◌+◌, [], ◌∷◌, ◌++◌, drop, ap, ◌∙◌, subst}
 use Rattle.markup.specs.Bytes.{begins, close_angle}
-use Rattle.xml.specs.Items.{cut}
-use Rattle.xml.specs.Opened.{closes_innermost}
-use Rattle.xml.specs.Texts.{bytes_of}
-use Rattle.xml.proofs.Named.{cut_length}
-use Rattle.xml.proofs.Stack.{last, met_by}
+use Rattle.xml.specs.Tags.{EndNamed}
+use Rattle.xml.specs.Texts.{bytes_of, open_names}
+use Rattle.xml.proofs.Stack.{closes_by, inner_name, met_by}
 use Rattle.xml.proofs.texts.TextReader.met_at.Goals as goal
-
-abbrev none : Span
-none = record { start = 0; end = 0 }
 
 pub end_named-requires : goal.end_named-requires
 end_named-requires c =
     let s = c.args.self.now in
-    let m = bytes_of s in
-    let d = s.depth in
-    let some = c.if-self-eq0.false in
-    let x = get_or s.spans (d - 1) none in
-    let order = s.ordered (d - 1) none (omega arith) (omega arith) in
-    let inside = s.inside (d - 1) none (omega arith) (omega arith) in
-    let spelt = s.spelt (d - 1) none (omega arith) (omega arith) in
-    let long : length (cut m x) ≡ x.end - x.start = cut_length m x (omega arith) inside in
-    let at : c.part.result.now ≡ cut m x = c.part.ensures.answer in
-    let long' : length c.part.result.now ≡ x.end - x.start = ap length at ∙ long in
-    let size : name_size c.part.result.now ≡ name_size (cut m x) = ap name_size at in
-    record { within = c.requires.within; small = c.requires.small; slashed = c.requires.slashed; some = omega arith; name = omega arith }
+    let n = inner_name (open_names s) c.in_ok-innermost.field-0 c.in_ok-innermost.ensures.answer in
+    record { end_tag = c.requires.end_tag; some = n.0; name = n.1 }
 
 pub returns : goal.returns
 returns c =
     let s = c.args.self.now in
-    let full = s.full in
-    let low = s.shallow in
-    let some = c.if-self-eq0.false in
-    let tops = last (bytes_of s) s.spans s.depth none (omega arith) (omega arith) in
-    let ahead = drop (c.args.place + 2) (bytes_of s) in
+    let p = c.args.at.place in
+    let names = open_names s in
+    let x = c.in_ok-innermost.field-0 in
+    let inner = c.in_ok-innermost.ensures.answer in
+    let is = subst (λ m. EndNamed m p x.now c.end_named.result) c.requires.ready.here c.end_named.ensures.answer in
     record {
-      answer = met_by (bytes_of s) c.args.place c.end_named.result tops c.part.ensures.answer c.end_named.ensures.answer;
-      when = c.end_named.ensures.when ∙ ap (λ x. begins (x ++ close_angle ∷ []) ahead) c.part.ensures.answer ∙ sym (ap (λ ns. closes_innermost ns ahead) tops);
+      answer = met_by (bytes_of s) p names x c.end_named.result inner is;
+      when = c.end_named.ensures.when ∙ ap (λ m. begins (x.now ++ close_angle ∷ []) (drop (p + 2) m)) c.requires.ready.here ∙ closes_by names x (drop (p + 2) (bytes_of s)) inner;
     }

@@ -1,0 +1,70 @@
+// Why a command cannot go on, and why a file holds no message. Each is told whole, however long a name in it is.
+use std::alloc::AllocError;
+use std::error::Error;
+use std::{fmt, io};
+use vocabulary::Fault;
+
+// Why a command fails.
+#[derive(Debug, Drop)]
+pub enum Failure<'a> {
+    Usage(&'static str),
+    Unread(&'a str, io::Error),
+    Refused(&'static str, &'a str, Fault),
+    NoMessage(usize),
+    Output(io::Error),
+}
+
+impl<'a> Error for Failure<'a> {}
+
+impl<'a> From<io::Error> for Failure<'a> {
+    fn from(error: io::Error) -> Failure<'a> {
+        Failure::Output(error)
+    }
+}
+
+impl<'a> From<AllocError> for Failure<'a> {
+    fn from(error: AllocError) -> Failure<'a> {
+        Failure::Output(io::Error::from(error))
+    }
+}
+
+impl<'a> fmt::Display for Failure<'a> {
+    fn fmt<W: fmt::Write>(&self, f: &mut fmt::Formatter<W>) -> fmt::Result {
+        match self {
+            Failure::Usage(what) => write!(f, "{what}"),
+            Failure::Unread(path, error) => write!(f, "{path}: cannot be read: {error}"),
+            Failure::Refused(kind, name, fault) => write!(f, "{kind} {name}: {fault}"),
+            Failure::NoMessage(n) => write!(f, "{n} of the files hold no message, see above"),
+            Failure::Output(error) => write!(f, "{error}"),
+        }
+    }
+}
+
+// Why nothing is told of a file's message.
+#[derive(Debug, Drop)]
+pub enum Unheld {
+    Unreadable(io::Error),
+    OddLength(usize),
+    Memory(AllocError),
+}
+
+impl Error for Unheld {}
+
+impl From<AllocError> for Unheld {
+    fn from(error: AllocError) -> Unheld {
+        Unheld::Memory(error)
+    }
+}
+
+impl fmt::Display for Unheld {
+    fn fmt<W: fmt::Write>(&self, f: &mut fmt::Formatter<W>) -> fmt::Result {
+        match self {
+            Unheld::Unreadable(error) => write!(f, "cannot be read: {error}"),
+            Unheld::OddLength(len) => write!(
+                f,
+                "is no recording: words are pairs of bytes, and it has {len} bytes"
+            ),
+            Unheld::Memory(error) => write!(f, "{error}"),
+        }
+    }
+}
