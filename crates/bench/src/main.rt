@@ -43,23 +43,23 @@ fn count(message: &[u8], vocabulary: &Vocabulary) -> Result<Counted, Fault> {
 }
 
 impl<'a> Job<'a> {
-    // Does the work in each round, and answers what the last one counted and the time of all.
-    fn time<F: FnMut(&Job<'a>) -> Result<u64, Fault>>(
+    // Does the work in each round, and answers what the last one came to and the time of all.
+    fn time<T: Default + Drop, F: FnMut(&Job<'a>) -> Result<T, Fault>>(
         &self,
         rt: &HostRuntime,
         mut work: F,
-    ) -> anyhow::Result<(u64, Duration)>
+    ) -> anyhow::Result<(T, Duration)>
         requires { F.IsAlwaysCallable work }
     {
-        let mut counted = 0;
+        let mut last = T::default();
         let start = Instant::now(rt)?;
         for _ in 0..self.rounds {
             match work(self) {
-                Ok(n) => counted = n,
+                Ok(answer) => last = answer,
                 Err(fault) => return Err(anyhow!(format!(in rt.alloc(); "message: {fault}")?)),
             }
         }
-        Ok((counted, start.elapsed(rt)?))
+        Ok((last, start.elapsed(rt)?))
     }
 
     // Prints nanoseconds per element and megabytes per second.
@@ -77,6 +77,7 @@ impl<'a> Job<'a> {
         let whole = tenths / 10;
         let tenth = tenths % 10;
         let rate = rounds
+            // there is no From of a usize for it
             .saturating_mul(self.message.len() as u128)
             .saturating_mul(1000)
             / nanos;
@@ -86,35 +87,24 @@ impl<'a> Job<'a> {
 }
 
 fn measure(rt: &HostRuntime, job: &Job, filter: &Filter) -> anyhow::Result<()> {
-    let (elements, time) = job.time(rt, |job| Ok(count(job.message, job.vocabulary)?.elements))?;
-    job.report(rt, "reader", time, elements)?;
-    let (hits, time) = job.time(rt, |job| {
+    let (counted, time) = job.time(rt, |job| count(job.message, job.vocabulary))?;
+    job.report(rt, "reader", time, counted.elements)?;
+    let (is_hit, time) = job.time(rt, |job| {
         let mut reader = TextReader::new(job.message, job.vocabulary);
-        Ok(u64::from(hit(filter, &mut reader)?))
+        hit(filter, &mut reader)
     })?;
-    let what = if hits > 0 {
+    let what = if is_hit {
         "one filter (hit)"
     } else {
         "one filter (no hit)"
     };
-    job.report(rt, what, time, elements)
+    job.report(rt, what, time, counted.elements)
 }
 
-// The filter on the first line of a file; none where it was told that it is refused. An error would keep only the front of
-// a long line, and lose the reason.
-fn first_filter(
-    rt: &HostRuntime,
-    text: &str,
-    vocabulary: &Vocabulary,
-) -> anyhow::Result<Option<Filter>> {
-    let line = text.lines().next().unwrap_or("/*");
-    match parse_filter(line.as_bytes(), vocabulary) {
-        Ok(filter) => Ok(Some(filter)),
-        Err(fault) => {
-            eprintln!(rt; "Error: filter {line}: {fault}")?;
-            Ok(None)
-        }
-    }
+// Tells what refuses the measuring. An error would keep only the front of a long name, and lose the reason.
+fn refusal(rt: &HostRuntime, kind: &str, name: &str, fault: Fault) -> anyhow::Result<ExitCode> {
+    eprintln!(rt; "Error: {kind} {name}: {fault}")?;
+    Ok(ExitCode::FAILURE)
 }
 
 fn bench(
@@ -128,14 +118,13 @@ fn bench(
     let bytes = fs::read(rt, names)?;
     let vocabulary = match Vocabulary::try_from(bytes.as_slice()) {
         Ok(vocabulary) => vocabulary,
-        Err(fault) => {
-            eprintln!(rt; "Error: vocabulary {names}: {fault}")?;
-            return Ok(ExitCode::FAILURE);
-        }
+        Err(fault) => return refusal(rt, "vocabulary", names, fault),
     };
     let text = fs::read_to_string(rt, filters)?;
-    let Some(filter) = first_filter(rt, text.as_str(), &vocabulary)? else {
-        return Ok(ExitCode::FAILURE);
+    let line = text.as_str().lines().next().unwrap_or("/*");
+    let filter = match parse_filter(line.as_bytes(), &vocabulary) {
+        Ok(filter) => filter,
+        Err(fault) => return refusal(rt, "filter", line, fault),
     };
     let message = fs::read(rt, path)?;
     let job = Job {

@@ -70,7 +70,7 @@ fn push_name(names: &mut String, name: &[u8]) -> Result<(), AllocError> {
         names.push_str(" ")?;
     }
     for byte in name {
-        names.push(*byte as char)?;
+        names.push(char::from(*byte))?;
     }
     Ok(())
 }
@@ -119,20 +119,12 @@ fn judge(
     Ok(true)
 }
 
-fn repeated(heap: Global, part: &str, times: usize) -> Result<String, AllocError> {
-    let mut text = String::new(heap);
-    for _ in 0..times {
-        text.push_str(part)?;
-    }
-    Ok(text)
-}
-
 // Elements of one name, each inside the one before.
 fn judge_depth(rt: &HostRuntime, depth: usize, verdict: &str) -> anyhow::Result<bool> {
-    let starts = repeated(rt.alloc(), "<D>", depth)?;
-    let ends = repeated(rt.alloc(), "</D>", depth)?;
+    let starts = "<D>".repeat(rt.alloc(), depth)?;
+    let ends = "</D>".repeat(rt.alloc(), depth)?;
     let message = format!(in rt.alloc(); "{starts}{ends}")?;
-    let more = repeated(rt.alloc(), " D", depth.saturating_sub(1))?;
+    let more = " D".repeat(rt.alloc(), depth.saturating_sub(1))?;
     let names = format!(in rt.alloc(); "D{more}")?;
     let label = format!(in rt.alloc(); "depth {depth}")?;
     judge(
@@ -146,7 +138,7 @@ fn judge_depth(rt: &HostRuntime, depth: usize, verdict: &str) -> anyhow::Result<
 
 // A filter of so many steps.
 fn judge_steps(rt: &HostRuntime, steps: usize, verdict: &str) -> anyhow::Result<bool> {
-    let text = repeated(rt.alloc(), "/*", steps)?;
+    let text = "/*".repeat(rt.alloc(), steps)?;
     let vocabulary = Vocabulary::new();
     let said = match parse_filter(text.as_str().as_bytes(), &vocabulary) {
         Ok(_) => Verdict::Accepted,

@@ -13,7 +13,7 @@ pub enum Axis {
     Descendant,
 }
 
-// What a step asks of an element's code: nothing, or that it is this code.
+// What a step asks of an element's code: nothing, or that it is this code. The rules speak of it by these names.
 #[derive(Clone, Copy, Debug, Default, PartialEq, Eq)]
 pub enum Test {
     #[default]
@@ -29,7 +29,7 @@ pub struct Step {
 }
 
 impl Test {
-    // Whether an element of this code fits the test.
+    // Whether an element of this code fits the test. A match, since `matches!` would need two patterns and a guard.
     pub fn accepts(self, code: u16) -> bool
         ensures answer { result ≡ fits self code }
     {
@@ -39,7 +39,7 @@ impl Test {
         }
     }
 
-    // Whether a filter may hold the test: a code is 1 to 512.
+    // Whether a filter may hold the test: a code is 1 to 512. A match for the same reason.
     pub fn is_known(self) -> bool
         ensures answer { result ≡ is_test self }
     {

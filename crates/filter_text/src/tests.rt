@@ -1,5 +1,5 @@
 // Each refusal of filter text at its edge, with its place, and what is written into a buffer.
-use super::{read_filter, write_filter};
+use super::{parse_filter, read_filter, write_filter};
 use filter::{Axis, Filter, Step, Test};
 use std::test::Fail;
 use vocabulary::{Fault, Question, Vocabulary};
@@ -35,6 +35,10 @@ fn refusals(rt: HostRuntime) -> Result<(), Fail> {
     let mut filter = Filter::new();
     read_filter(b"//G", &vocabulary, &mut filter)?;
     for (text, question, place) in cases {
+        assert_eq!(rt;
+            parse_filter(text, &vocabulary).err(),
+            Some(question.at(place))
+        );
         assert_eq!(rt;
             read_filter(text, &vocabulary, &mut filter),
             Err(question.at(place))

@@ -46,7 +46,8 @@ fn text_len(steps: &[Step], vocabulary: &Vocabulary) -> Result<usize, Fault>
     Ok(len)
 }
 
-// Copies the text to the place in the buffer, and answers the place after it.
+// Copies the text to the place in the buffer, and answers the place after it. Buffer and place are no struct of three functions:
+// it would hold the buffer by a `&mut`, which each call lends on.
 fn put(text: &[u8], buffer: &mut [u8], place: usize) -> usize
     requires room { place + length text.now ≤ length buffer.old }
     ensures answer { result ≡ place + length text.now }

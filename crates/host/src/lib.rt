@@ -19,7 +19,7 @@ fn ask(vocabulary: &[u8], filter: &[u8], message: &[u8]) -> Result<bool, Fault>
     hit(&steps, &mut source)
 }
 
-// 1 for a hit, 0 for none, or the number of the first fault times 4,294,967,296 and its place.
+// As C is answered: 1 for a hit, 0 for none, or the number of the first fault times 4,294,967,296 and its place.
 pub fn lozghemi_hit(vocabulary: &[u8], filter: &[u8], message: &[u8]) -> u64
     ensures answer { result ≡ host_answer vocabulary.now filter.now message.now }
 {

@@ -1,4 +1,4 @@
-// The call of `host` for C: a static library with its one export.
+// The call of `host` for C: a static library with its one export. No crate can use a static library, and so there are two.
 #![tactic(auto)]
 
 ghost use Rattle.std.specs.Prelude.{◌≡◌};

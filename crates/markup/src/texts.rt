@@ -41,6 +41,7 @@ impl Mark {
     pub fn first_in(self, rest: &[u8]) -> Option<usize>
         ensures answer { result ≡ first_from (mark_bytes self) 0 rest.now }
     {
+        // not by windows: they want a length that is not 0, which a slice does not say
         let mark = self.bytes();
         for n in 0..rest.len() {
             if rest[n..].starts_with(mark) {

@@ -9,7 +9,7 @@ use Rattle.message.specs.declared.events.Event.{Event}
 use Rattle.message.specs.Sources.{Ending, closed, faulted, told, Wellformed}
 use Rattle.message.specs.Answers.{at_ending, hit_answer}
 use Rattle.message.specs.Elements.{Hits, hits}
-use Rattle.message.specs.Passing.{walked, walk_answer}
+use Rattle.message.specs.Passing.{walked}
 use Rattle.message.specs.Trees.{SelectedIn}
 use Rattle.message.proofs.Runs.{walked_hits, hits_decides}
 use Rattle.message.proofs.Parses.{selected}
@@ -35,7 +35,7 @@ module _ (ss : List Step) (taken : ℕ) (es : List Event) (e : Ending) where
   abbrev asked : Bool → Bool → Result Bool Fault
   asked fresh b = cond fresh (at_ending e b) (Err (fault SourceNotFresh 0))
 
-  pub same_answer : (taken ≡ 0 → Wellformed es e) → walk_answer ss taken es e ≡ hit_answer ss taken es e
+  pub same_answer : (taken ≡ 0 → Wellformed es e) → asked (eqb taken 0) (walked ss [] false es) ≡ hit_answer ss taken es e
   same_answer sound =
       fresh_or_not taken (λ t. asked t (walked ss [] false es) ≡ asked t (hits ss es)) (λ fresh. ap (at_ending e) (walked_hits ss [] false es (sound fresh).nested)) refl
 

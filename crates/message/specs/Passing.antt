@@ -1,16 +1,11 @@
 -- What passing events on to a walk comes to. Assumes nothing.
-use Rattle.std.specs.Prelude.{ℕ, Bool, false, cond, ◌||◌, List, [], ◌∷◌, ◌++◌, length, Err, Result, ◌==◌, nat_lt}
+use Rattle.std.specs.Prelude.{ℕ, Bool, false, cond, ◌||◌, List, [], ◌∷◌, ◌++◌, length, nat_lt}
 use Rattle.vocabulary.specs.Limits.{most_open}
-use Rattle.vocabulary.specs.declared.faults.Fault.{Fault}
-use Rattle.vocabulary.specs.declared.faults.Question.TheVariants.{SourceNotFresh}
-use Rattle.vocabulary.specs.Faults.{fault}
 use Rattle.filter.specs.declared.steps.Step.{Step}
 use Rattle.filter.specs.Embedding.{embeds}
 use Rattle.message.specs.declared.events.Event.{Event}
 use Rattle.message.specs.declared.events.Event.TheVariants.{Start, End}
-use Rattle.message.specs.Sources.{Ending}
 use Rattle.message.specs.Elements.{outer}
-use Rattle.message.specs.Answers.{at_ending}
 
 -- whether the steps embed at the element that the event starts; a walk takes no more than 32
 abbrev pub embeds_at : List Step → List ℕ → Event → Bool
@@ -26,7 +21,3 @@ path_after path (End p) = outer path
 abbrev pub walked : List Step → List ℕ → Bool → List Event → Bool
 walked ss path found [] = found
 walked ss path found (x ∷ es) = walked ss (path_after path x) (found || embeds_at ss path x) es
-
--- what a walk along a source answers
-abbrev pub walk_answer : List Step → ℕ → List Event → Ending → Result Bool Fault
-walk_answer ss taken es e = cond (taken == 0) (at_ending e (walked ss [] false es)) (Err (fault SourceNotFresh 0))

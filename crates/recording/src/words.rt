@@ -7,7 +7,7 @@ pub mod reading;
 // The words of a recording at most.
 pub const MOST_WORDS: usize = 1_048_576;
 
-// What a word stands for.
+// What a word stands for. An end is no lack of a start, and so there is no Option.
 #[derive(Clone, Copy, Debug, PartialEq, Eq)]
 pub enum Word {
     End,

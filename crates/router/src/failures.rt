@@ -1,4 +1,4 @@
-// Why a command cannot go on, and why a file holds no message. Each is told whole, however long a name in it is.
+// Why a command cannot go on, and why a file cannot be used. Each is told whole, however long a name in it is.
 use std::alloc::AllocError;
 use std::error::Error;
 use std::{fmt, io};
@@ -8,10 +8,11 @@ use vocabulary::Fault;
 #[derive(Debug, Drop)]
 pub enum Failure<'a> {
     Usage(&'static str),
-    Unread(&'a str, io::Error),
+    Unread(&'a str, Unheld),
     Refused(&'static str, &'a str, Fault),
     NoMessage(usize),
     Output(io::Error),
+    Memory(AllocError),
 }
 
 impl<'a> Error for Failure<'a> {}
@@ -24,7 +25,7 @@ impl<'a> From<io::Error> for Failure<'a> {
 
 impl<'a> From<AllocError> for Failure<'a> {
     fn from(error: AllocError) -> Failure<'a> {
-        Failure::Output(io::Error::from(error))
+        Failure::Memory(error)
     }
 }
 
@@ -32,29 +33,23 @@ impl<'a> fmt::Display for Failure<'a> {
     fn fmt<W: fmt::Write>(&self, f: &mut fmt::Formatter<W>) -> fmt::Result {
         match self {
             Failure::Usage(what) => write!(f, "{what}"),
-            Failure::Unread(path, error) => write!(f, "{path}: cannot be read: {error}"),
+            Failure::Unread(path, reason) => write!(f, "{path}: {reason}"),
             Failure::Refused(kind, name, fault) => write!(f, "{kind} {name}: {fault}"),
             Failure::NoMessage(n) => write!(f, "{n} of the files hold no message, see above"),
             Failure::Output(error) => write!(f, "{error}"),
+            Failure::Memory(error) => write!(f, "{error}"),
         }
     }
 }
 
-// Why nothing is told of a file's message.
+// Why a file cannot be used.
 #[derive(Debug, Drop)]
 pub enum Unheld {
     Unreadable(io::Error),
     OddLength(usize),
-    Memory(AllocError),
 }
 
 impl Error for Unheld {}
-
-impl From<AllocError> for Unheld {
-    fn from(error: AllocError) -> Unheld {
-        Unheld::Memory(error)
-    }
-}
 
 impl fmt::Display for Unheld {
     fn fmt<W: fmt::Write>(&self, f: &mut fmt::Formatter<W>) -> fmt::Result {
@@ -64,7 +59,6 @@ impl fmt::Display for Unheld {
                 f,
                 "is no recording: words are pairs of bytes, and it has {len} bytes"
             ),
-            Unheld::Memory(error) => write!(f, "{error}"),
         }
     }
 }

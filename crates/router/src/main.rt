@@ -35,19 +35,24 @@ fn say(rt: &HostRuntime, path: &str, answer: Result<bool, Fault>) -> io::Result<
     }
 }
 
+fn read_file<'a>(rt: &HostRuntime, path: &'a str) -> Result<Vec<u8>, Failure<'a>> {
+    fs::read(rt, path).map_err(|error| Failure::Unread(path, Unheld::Unreadable(error)))
+}
+
 // Whether the filter hits the message of a file.
-fn ask(
+fn ask<'a>(
     rt: &HostRuntime,
-    path: &str,
+    path: &'a str,
     filter: &Filter,
     vocabulary: &Vocabulary,
-) -> Result<Result<bool, Fault>, Unheld> {
-    let bytes = fs::read(rt, path).map_err(Unheld::Unreadable)?;
+) -> Result<Result<bool, Fault>, Failure<'a>> {
+    let bytes = read_file(rt, path)?;
     if !path.ends_with(".rec") {
-        return Ok(hit(filter, &mut TextReader::new(bytes.as_slice(), vocabulary)));
+        let mut source = TextReader::new(bytes.as_slice(), vocabulary);
+        return Ok(hit(filter, &mut source));
     }
     if bytes.len() % 2 != 0 {
-        return Err(Unheld::OddLength(bytes.len()));
+        return Err(Failure::Unread(path, Unheld::OddLength(bytes.len())));
     }
     let words = words_in(rt.alloc(), bytes.as_slice())?;
     Ok(hit(filter, &mut Recording::new(words.as_slice())))
@@ -63,7 +68,7 @@ fn run_hit<'a>(rt: &HostRuntime, words: &'a [String]) -> Result<(), Failure<'a>>
         return Err(Failure::Usage("hit wants at least one FILE; router --help tells more"));
     }
     let (names, text) = (names.as_str(), text.as_str());
-    let bytes = fs::read(rt, names).map_err(|error| Failure::Unread(names, error))?;
+    let bytes = read_file(rt, names)?;
     let vocabulary = Vocabulary::try_from(bytes.as_slice()).map_err(|fault| Failure::Refused(
         "vocabulary",
         names,
@@ -76,11 +81,11 @@ fn run_hit<'a>(rt: &HostRuntime, words: &'a [String]) -> Result<(), Failure<'a>>
     for file in files {
         match ask(rt, file.as_str(), &filter, &vocabulary) {
             Ok(answer) => say(rt, file.as_str(), answer)?,
-            Err(Unheld::Memory(error)) => return Err(Failure::from(error)),
-            Err(reason) => {
-                eprintln!(rt; "{file}: {reason}")?;
+            Err(Failure::Unread(path, reason)) => {
+                eprintln!(rt; "{path}: {reason}")?;
                 unheld = unheld.saturating_add(1);
             }
+            Err(failure) => return Err(failure),
         }
     }
     if unheld > 0 {
@@ -103,7 +108,7 @@ fn command<'a>(rt: &HostRuntime, words: &'a [String]) -> Result<(), Failure<'a>>
     Ok(())
 }
 
-fn run(rt: &HostRuntime) -> io::Result<ExitCode> {
+fn run(rt: &HostRuntime) -> Result<ExitCode, Failure<'static>> {
     let words: Vec<String> = env::args(rt)?.skip(1).collect(rt.alloc())?;
     if let Err(failure) = command(rt, words.as_slice()) {
         eprintln!(rt; "router: {failure}")?;
@@ -115,9 +120,9 @@ fn run(rt: &HostRuntime) -> io::Result<ExitCode> {
 fn main(rt: HostRuntime) -> ExitCode {
     match run(&rt) {
         Ok(code) => code,
-        Err(error) => {
+        Err(failure) => {
             // where this fails there is nowhere left to tell it
-            let _told = eprintln!(rt; "router: {error}");
+            let _told = eprintln!(rt; "router: {failure}");
             ExitCode::FAILURE
         }
     }

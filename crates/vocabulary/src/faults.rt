@@ -39,7 +39,7 @@ pub enum Question {
     SourceNotFresh = 72,
 }
 
-// Bytes are counted from 0, steps and words from 1; the place is 0 where none is named.
+// Bytes are counted from 0, steps and words from 1. The place is 0 where none is named, and not None: so C is answered.
 #[derive(Clone, Copy, Debug, PartialEq, Eq)]
 pub struct Fault {
     pub question: Question,

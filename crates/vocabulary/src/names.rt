@@ -32,7 +32,7 @@ fn inner_len(rest: &[u8]) -> usize
     rest.iter().take_while(|byte| is_name_byte(**byte)).count()
 }
 
-// How long the name at the front is, 0 where none begins.
+// How long the name at the front is. Where none begins that is 0, and not None: a length is what callers add up.
 pub fn name_len(rest: &[u8]) -> usize
     ensures answer { result ≡ name_size rest.now }
     ensures within { result ≤ length rest.now }

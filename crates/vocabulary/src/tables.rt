@@ -29,8 +29,8 @@ pub(crate) struct Table<'a> {
     ghost linked: { Links (items_of entries) },
 }
 
-// That a name is short stands on three functions of this file, and not in a type around the name, which each use would take off.
 fn bucket_of(name: &[u8]) -> usize
+    // this stands here and on two methods, and not in a type around the name, which each use would take off
     requires short { length name.now ≤ most_name_bytes }
     ensures answer { result ≡ bucket_of name.now }
     ensures within { result < buckets }

@@ -6,6 +6,7 @@ use std::process::Abort;
 use std::test::Fail;
 
 fn answers(rt: &impl Abort, text: &[u8], expected: Result<(), Fault>) {
+    assert_eq!(rt; Vocabulary::try_from(text).err(), expected.err());
     assert_eq!(rt; Vocabulary::new().read(text), expected);
 }
 

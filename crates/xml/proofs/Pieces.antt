@@ -102,10 +102,3 @@ at_other p (x ∷ s) h a b d e =
     cond-false _ _ _ (ne_eqb x 47 a)
     ∙ cond-false _ _ _ b
     ∙ ap (λ m. piece_by p (scan_by m (λ t. scan_from t s))) (cond-false _ _ _ b ∙ cond-false _ _ _ (ne_eqb x 47 a) ∙ cond-false _ _ _ (ne_eqb x 33 d) ∙ cond-false _ _ _ (ne_eqb x 63 e))
-
--- markup, and text
-pub at_angle : (inside : Bool) (p : ℕ) (s : List ℕ) → get_or s 0 0 ≡ 60 → piece_of p (drop 1 s) ≡ item_of inside p s
-at_angle inside p s e = sym (cond-true _ _ _ (eq-eqb (get_or s 0 0) 60 e))
-
-pub at_text : (inside : Bool) (p : ℕ) (s : List ℕ) → (get_or s 0 0 ≡ 60 → ⊥) → text_of inside p s ≡ item_of inside p s
-at_text inside p s ne = sym (cond-false _ _ _ (ne_eqb (get_or s 0 0) 60 ne))

@@ -149,22 +149,7 @@ module _ (s : TextReader) (p : ℕ) (idle : s.pending ≡ None) (onwards : Onwar
 abbrev Verdict : Type 0
 Verdict = Result (Unit {0}) Fault
 
--- a start tag is admitted only inside, and with few open
-pub may_open : (o : Bool) (d p : ℕ) → admitted o d p ≡ Ok tt → (o ≡ false) × (d < most_open)
-may_open true d p h = absurd cc
-may_open false d p h = (refl, by_depth (leb most_open d) refl h)
-  where
-    by_depth : (b : Bool) → leb most_open d ≡ b → ◌≡◌ {A = Result (Unit {0}) Fault} (cond b (Err (fault TagTooDeep p)) (Ok tt)) (Ok tt) → d < most_open
-    by_depth true e h = absurd cc
-    by_depth false e h = omega (arith, leb-false)
-
--- a start tag that does not open an element is empty
-pub left_empty : (k : TagKind) → (k ≡ Opening → ⊥) → (k ≡ Closing → ⊥) → k ≡ Empty
-left_empty Opening a b = absurd (a refl)
-left_empty Empty a b = refl
-left_empty Closing a b = absurd (b refl)
-
--- a start tag that is not admitted, and one that is
+-- a start tag that is not admitted
 ok_not : {X : Type 0} (f : Fault) → ◌≡◌ {A = Verdict} (Ok tt) (Err f) → X
 ok_not f h = absurd cc
 
@@ -177,16 +162,8 @@ module _ (st : Stand) (p : ℕ) (es : List Event) (next : Status) where
   by_depth false true f h = ap (λ g. record { told = []; next = stopped g }) (err_same _ f h)
   by_depth false false f h = ok_not f h
 
-  in_depth : (o b : Bool) → ◌≡◌ {A = Verdict} (cond o (Err (fault TagAfterRoot p)) (cond b (Err (fault TagTooDeep p)) (Ok tt))) (Ok tt) → cond o (refuse TagAfterRoot p) (cond b (refuse TagTooDeep p) (record { told = es; next = next })) ≡ record { told = es; next = next }
-  in_depth true b h = ok_not _ (sym h)
-  in_depth false true h = ok_not _ (sym h)
-  in_depth false false h = refl
-
   refused : (f : Fault) → admitted st.over (length st.names) p ≡ Err f → started st p es next ≡ record { told = []; next = stopped f }
   refused f h = by_depth st.over (leb most_open (length st.names)) f h
-
-  accepted : admitted st.over (length st.names) p ≡ Ok tt → started st p es next ≡ record { told = es; next = next }
-  accepted h = in_depth st.over (leb most_open (length st.names)) h
 
 module _ (s : TextReader) (p : ℕ) (idle : s.pending ≡ None) (onwards : Onwards (codes_of s) (stand_of s) (bytes_of s) s.place p) (tag : Tagged) where
   abbrev name : List ℕ
@@ -199,30 +176,6 @@ module _ (s : TextReader) (p : ℕ) (idle : s.pending ≡ None) (onwards : Onwar
   not_admitted Opening f start is h = tag_stops s p idle onwards opening tag is f (refused (stand_of s) p _ _ f h)
   not_admitted Empty f start is h = tag_stops s p idle onwards empty tag is f (refused (stand_of s) p _ _ f h)
   not_admitted Closing f start is h = absurd (start refl)
-
-  module _ (code : ℕ) (coded : code ≡ code_or_0 (codes_of s) name) (at : tag.name.start ≡ p + 1) (Spelt-is : name ≡ name_behind (bytes_of s) p) (fine : admitted s.over (length names) p ≡ Ok tt) (s' : TextReader) where
-    latest_is : latest_of s' ≡ option_map (spelt (bytes_of s)) (Some tag.name) → latest_of s' ≡ latest_after (bytes_of s) (Ok (Some (Start code p))) (latest_of s)
-    latest_is e = e ∙ (λ i. Some (at i, Spelt-is i))
-
-    pub opened : TagIs (bytes_of s) p opening tag → After s p tag (name ∷ names) false None (Some tag.name) s' → Turn s (Ok (Some (Start code p))) s'
-    opened is after =
-        let e = accepted (stand_of s) p (Start (code_or_0 (codes_of s) name) p ∷ []) (between (stand_at (name ∷ names) false)) fine in
-        go s s' (Start code p)
-        (tag_events_as s p idle onwards opening tag is _ e ∙ (λ i. Start (sym coded i) p ∷ sym (after_coming s p idle onwards opening tag _ _ _ _ s' after) i))
-        (tag_ending_as s p idle onwards opening tag is _ e ∙ sym (after_final s p idle onwards opening tag _ _ _ _ s' after))
-        after.count after.bytes (latest_is (after_latest s p idle onwards opening tag _ _ _ _ s' after)) (coded ∙ ap (code_or_0 (codes_of s)) Spelt-is)
-
-    pub passed : TagIs (bytes_of s) p empty tag → After s p tag names (is_empty names) (Some p) (Some tag.name) s' → Turn s (Ok (Some (Start code p))) s'
-    passed is after =
-        let e = accepted (stand_of s) p (Start (code_or_0 (codes_of s) name) p ∷ End p ∷ []) (left names) fine in
-        let far = p + 1 + tag.len in
-        go s s' (Start code p)
-        (tag_events_as s p idle onwards empty tag is _ e
-        ∙ (λ i. Start (sym coded i) p ∷ End p ∷ events_from (codes_of s) (left names) far (drop far (bytes_of s)))
-        ∙ ap (λ l. Start code p ∷ l) (sym (after_coming s p idle onwards empty tag _ _ _ _ s' after)))
-        (tag_ending_as s p idle onwards empty tag is _ e
-        ∙ sym (after_final s p idle onwards empty tag _ _ _ _ s' after))
-        after.count after.bytes (latest_is (after_latest s p idle onwards empty tag _ _ _ _ s' after)) (coded ∙ ap (code_or_0 (codes_of s)) Spelt-is)
 
   -- an end tag
   unmet_by : (ns : List (List ℕ)) (f : Fault) → met ns p name ≡ Err f → closed_by ns p name ≡ record { told = []; next = stopped f }

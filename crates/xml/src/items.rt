@@ -25,7 +25,7 @@ pub(crate) enum Piece {
     End,
 }
 
-// A place inside a message that is not too long. It fits into 32 bits, so that no cast of it needs a TryFrom.
+// A place inside a message that is not too long. The place fits into 32 bits, so that no cast of it needs a TryFrom.
 #[derive(Clone, Copy, Debug, PartialEq, Eq)]
 pub(crate) struct At<'a> {
     pub(crate) message: &'a [u8],
@@ -35,6 +35,7 @@ pub(crate) struct At<'a> {
 }
 
 impl Span {
+    // The bytes. That they lie in the text is no invariant: a span does not know its text.
     pub(crate) fn of(self, text: &[u8]) -> &[u8]
         requires order { self.start ≤ self.end }
         requires inside { self.end ≤ length text.now }

@@ -21,7 +21,8 @@ pub(crate) struct Tagged {
 }
 
 impl<'a> At<'a> {
-    // The tag here with this name, where the reading stands so behind it. Each caller has a copy that knows its tag.
+    // The tag here, of which the name is read already and `tag` says how the reading stands behind it. Each caller has a copy
+    // that knows its tag.
     #[inline(always)]
     fn tagged(self, name: Span, tag: Tag) -> Result<Tagged, Fault>
         requires behind { self.place < name.end }
@@ -34,6 +35,7 @@ impl<'a> At<'a> {
                 name,
                 len: name.end - (self.place + 1) + len,
             }),
+            // it fits: this place lies in the message too
             Err(Misread::Misfit(n)) => Err(Question::ByteMisfit.at((name.end + n) as u32)),
             Err(Misread::CutShort) => Err(self.refuse(Question::MarkupNotEnded)),
         }

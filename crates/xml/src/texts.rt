@@ -23,7 +23,7 @@ pub struct TextReader<'a, 'v, 'n> {
     vocabulary: &'v Vocabulary<'n>,
     place: usize,
     spans: Row<Span, MOST_OPEN>,
-    // Not one enum with the names: a row in it would have to be moved in and out at each tag.
+    // Not one enum with the names: they would be a part of one variant, and each method would reach them by a match.
     over: bool,
     pending: Option<u32>,
     latest: Option<Span>,

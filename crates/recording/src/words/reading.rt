@@ -117,7 +117,8 @@ mod tests {
     use message::{Event, Source};
     use std::test::Fail;
 
-    // How many events the words tell, and the number and the place of the fault after them, if there is one.
+    // How many events the words tell, and the number and the place of the fault after them, if there is one. The text reader's
+    // tests have the like: shared, it would be a public function for tests alone.
     fn read(words: &[u16]) -> (usize, Option<(u8, u32)>) {
         let mut recording = Recording::new(words);
         for count in 0..=words.len() {

@@ -24,7 +24,7 @@ use rows::Row;
 use vocabulary::names::is_same_name;
 use vocabulary::{Fault, MOST_OPEN, Question, Vocabulary};
 
-// The code of a name, 0 where the vocabulary does not have it.
+// The code of a name, 0 where the vocabulary does not have it: so recordings hold it, and one message has the same events.
 fn code_of(vocabulary: &Vocabulary, name: &[u8]) -> u16
     ensures answer { result ≡ code_or_0 (names_of vocabulary.now) name.now }
 {
@@ -65,10 +65,8 @@ impl<'a, 'v, 'n> TextReader<'a, 'v, 'n> {
         Ok(())
     }
 
-    // `ready` stands on the methods that take a place, and not in a type around reader and place: it would hold the reader
-    // by a `&mut`, and be taken apart in each.
-
-    // Goes past a start tag, and opens its element.
+    // Goes past a start tag, and opens its element. What `ready` says stands on this and the other methods that take a place:
+    // a type around reader and place would hold the reader by a `&mut`, and be taken apart in each.
     fn open(&mut self, at: At, tag: Tagged)
         requires tag { TagIs (bytes_of self.old) at.place opening tag }
         requires ready { Ready self.old at }
@@ -76,9 +74,7 @@ impl<'a, 'v, 'n> TextReader<'a, 'v, 'n> {
         requires room { length (open_names self.old) < most_open }
         ensures after { After self.old at.entry.place tag (cut (bytes_of self.old) tag.name ∷ open_names self.old) false None (Some tag.name) self.new }
     {
-        let Ok(()) = self.spans.push(tag.name) else {
-            unreachable!()
-        };
+        self.spans.push(tag.name).unwrap();
         self.place = at.place + 1 + tag.len;
         self.latest = Some(tag.name);
         self.taken += 1;
@@ -225,6 +221,7 @@ impl<'a, 'v, 'n> Source for TextReader<'a, 'v, 'n> {
             Some(Sought::Start(at)) => self.start_tag(at),
             Some(Sought::End(at)) => self.end_tag(at),
             None => {
+                // it fits: the message is not too long
                 let unended = Question::TextNotEnded.at(self.message.len() as u32);
                 conclude(self.over, unended)
             }
