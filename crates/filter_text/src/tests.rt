@@ -6,35 +6,37 @@ use vocabulary::{Fault, Question, Vocabulary};
 
 const LONG: &[u8] = b"aaaaaaaabbbbbbbbccccccccdddddddd";
 
+// Texts with the question that says no, and its place.
+const REFUSED: [(&[u8], Question, u32); 12] = [
+    (b"", Question::FilterSize, 0),
+    (b"/D/D/D/D/D/D/D//D/D", Question::TooManySteps, 17),
+    (b"/*/*/*/*/*/*/*/*x", Question::TooManySteps, 16),
+    (b"D", Question::StepNoSlash, 0),
+    (b"/D G", Question::StepNoSlash, 2),
+    (b"/", Question::StepNoTest, 1),
+    (b"//", Question::StepNoTest, 2),
+    (b"/1", Question::StepNoTest, 1),
+    (b"///D", Question::StepNoTest, 2),
+    (
+        b"/D//aaaaaaaabbbbbbbbccccccccdddddddde",
+        Question::StepNameLong,
+        4,
+    ),
+    (
+        b"/aaaaaaaabbbbbbbbccccccccdddddddd",
+        Question::StepNameUnknown,
+        1,
+    ),
+    (b"/D/X", Question::StepNameUnknown, 3),
+];
+
 #[test]
 fn refusals(rt: HostRuntime) -> Result<(), Fail> {
-    let cases: [(&[u8], Question, u32); 12] = [
-        (b"", Question::FilterSize, 0),
-        (b"/D/D/D/D/D/D/D//D/D", Question::TooManySteps, 17),
-        (b"/*/*/*/*/*/*/*/*x", Question::TooManySteps, 16),
-        (b"D", Question::StepNoSlash, 0),
-        (b"/D G", Question::StepNoSlash, 2),
-        (b"/", Question::StepNoTest, 1),
-        (b"//", Question::StepNoTest, 2),
-        (b"/1", Question::StepNoTest, 1),
-        (b"///D", Question::StepNoTest, 2),
-        (
-            b"/D//aaaaaaaabbbbbbbbccccccccdddddddde",
-            Question::StepNameLong,
-            4,
-        ),
-        (
-            b"/aaaaaaaabbbbbbbbccccccccdddddddd",
-            Question::StepNameUnknown,
-            1,
-        ),
-        (b"/D/X", Question::StepNameUnknown, 3),
-    ];
     let mut vocabulary = Vocabulary::new();
     vocabulary.read(b"D\nG\nS\n")?;
     let mut filter = Filter::new();
     read_filter(b"//G", &vocabulary, &mut filter)?;
-    for (text, question, place) in cases {
+    for (text, question, place) in REFUSED {
         assert_eq!(rt;
             parse_filter(text, &vocabulary).err(),
             Some(question.at(place))
