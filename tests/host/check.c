@@ -1,4 +1,5 @@
 /* Checks the call for C hosts on a table of cases. */
+#include <pthread.h>
 #include <stdio.h>
 #include <stdlib.h>
 #include <string.h>
@@ -84,6 +85,22 @@ static uint64_t sized(size_t bytes) {
     return answer;
 }
 
+static void *ask_there(void *answer) {
+    *(uint64_t *)answer = ask("D\nG\n", 4, "//G", 3, "<D><G/></D>", 11);
+    return NULL;
+}
+
+/* the same call from a thread with a stack of so many bytes */
+static uint64_t stacked(size_t bytes) {
+    uint64_t answer = 0;
+    pthread_t thread;
+    pthread_attr_t attr;
+    if (pthread_attr_init(&attr) != 0 || pthread_attr_setstacksize(&attr, bytes) != 0) return 0;
+    if (pthread_create(&thread, &attr, ask_there, &answer) != 0) return 0;
+    pthread_join(thread, NULL);
+    return answer;
+}
+
 int main(void) {
     for (size_t i = 0; i < sizeof rows / sizeof rows[0]; i++) {
         const struct row *r = &rows[i];
@@ -98,6 +115,7 @@ int main(void) {
     judge("no vocabulary", ask(NULL, 0, "/D", 2, "<D/>", 4), FAULT(11, 0));
     judge("no filter", ask("D\n", 2, NULL, 0, "<D/>", 4), FAULT(21, 0));
     judge("no message", ask("D\n", 2, "/D", 2, NULL, 0), FAULT(39, 0));
+    judge("a stack of 40 kB", stacked(40 * 1024), 1);
     printf("host: %d passed, %d failed\n", passed, failed);
     return failed != 0;
 }

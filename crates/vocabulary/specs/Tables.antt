@@ -6,4 +6,4 @@ use Rattle.vocabulary.specs.declared.tables.Table.{Table}
 
 -- the names by their codes
 abbrev pub names_in : Table → List (List ℕ)
-names_in t = names_on (items_of t.entries)
+names_in t = names_on t.text.now (items_of t.entries)

@@ -1,5 +1,5 @@
 -- Which bytes are a vocabulary, and what the first fault is of those that are none. Assumes nothing.
-use Rattle.std.specs.Prelude.{◌≡◌, ℕ, ◌+◌, ◌-◌, ◌<◌, ◌≤◌, Bool, true, cond, not, List, [], ◌∷◌, ◌++◌, length, is_some, Ok, Err, Result, ◌==◌, ◌≢◌, nat_lt, slice_index_or}
+use Rattle.std.specs.Prelude.{◌≡◌, ℕ, ◌+◌, ◌-◌, ◌<◌, ◌≤◌, Bool, true, cond, not, List, [], ◌∷◌, ◌++◌, length, drop, is_some, Ok, Err, Result, ◌==◌, ◌≢◌, nat_lt, slice_index_or}
 use Rattle.std.specs.Borrow.{Bor}
 use Rattle.std.specs.List.{flat_map}
 use Rattle.vocabulary.specs.declared.faults.Fault.{Fault}
@@ -69,7 +69,7 @@ Accepts = (text : List ℕ) (names : List (List ℕ)) → (read_names text ≡ O
 -- what a reading of the first line of s, which stands at the place n, leaves of the whole: the names and the bytes to go on
 -- from, or its fault
 abbrev pub LineRead : List ℕ → ℕ → List (List ℕ) → List (List ℕ) → Result (Bor (List ℕ)) Fault → Type 0
-LineRead s n before after (Ok rest) = (read_lines before n [] s ≡ read_lines after (n + (length s - length rest.now)) [] rest.now) × (length rest.now < length s)
+LineRead s n before after (Ok rest) = (read_lines before n [] s ≡ read_lines after (n + (length s - length rest.now)) [] rest.now) × (length rest.now < length s) × (rest.now ≡ drop (length s - length rest.now) s)
 LineRead s n before after (Err f) = read_lines before n [] s ≡ Err f
 
 -- a byte that does not end a line

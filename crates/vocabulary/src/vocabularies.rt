@@ -1,5 +1,4 @@
-// A vocabulary over borrowed bytes. Every value of the type is an accepted one, or a fresh one with no names. The text is
-// kept for what the type says of it.
+// A vocabulary over borrowed bytes. Every value of the type is an accepted one, or a fresh one with no names.
 ghost use Rattle.std.specs.Prelude.{◌≡◌};
 ghost use Rattle.std.specs.List.{flat_map};
 ghost use Rattle.vocabulary.specs.Tables.{names_in};
@@ -11,9 +10,8 @@ pub mod reading;
 
 #[derive(Clone, Copy)]
 pub struct Vocabulary<'a> {
-    text: &'a [u8],
     table: Table<'a>,
-    ghost spelled: { text.now ≡ flat_map line (names_in table) },
+    ghost spelled: { table.text.now ≡ flat_map line (names_in table) },
     ghost each: { EachName (names_in table) },
     ghost once: { NoTwo (names_in table) },
 }

@@ -1,5 +1,5 @@
 // Reading a vocabulary, and asking it for codes and names.
-ghost use Rattle.std.specs.Prelude.{◌≡◌, ◌<◌, ◌≤◌, [], length, IfSome};
+ghost use Rattle.std.specs.Prelude.{◌≡◌, ◌+◌, ◌<◌, ◌≤◌, [], length, drop, IfOk, IfSome};
 ghost use Rattle.std.specs.Option.{option_map};
 ghost use Rattle.std.specs.List.{prefix_len};
 ghost use Rattle.std.specs.Result.{result_map_both, result_unwrap_or};
@@ -42,32 +42,36 @@ fn admit(table: &Table, name: &[u8], place: u32) -> Result<(), Fault>
     Ok(())
 }
 
-// Takes the first line of `rest`, which begins at `place`, into the table, and answers what comes after it.
-fn take_line<'a>(table: &mut Table<'a>, rest: &'a [u8], place: u32) -> Result<&'a [u8], Fault>
+// Takes the first line of `rest`, which begins at `place` in the text, into the table, and answers what comes after it.
+// A place fits into 16 bits: a text that is read has at most 16,384 bytes.
+fn take_line<'a>(table: &mut Table<'a>, rest: &'a [u8], place: usize) -> Result<&'a [u8], Fault>
+    requires here { rest.now ≡ drop place table.old.text.now }
     requires some { 0 < length rest.now }
+    requires small { place + length rest.now ≤ most_bytes }
+    ensures text { table.new.text.now ≡ table.old.text.now }
     ensures answer { LineRead rest.now place (names_in table.old) (names_in table.new) result }
 {
     let len = line_len(rest);
     if len == rest.len() {
-        return Err(Question::LineNotEnded.at(place));
+        return Err(Question::LineNotEnded.at(place as u32));
     }
     let (name, after) = rest.split_at(len);
-    admit(table, name, place)?;
-    table.add(name);
+    admit(table, name, place as u32)?;
+    table.add(place as u16, (place + len) as u16);
     Ok(&after[1..])
 }
 
 // The table of all lines of the text.
 fn read_lines(text: &[u8]) -> Result<Table<'_>, Fault>
     requires small { length text.now ≤ most_bytes }
+    ensures text { IfOk result (λ table. table.text.now ≡ text.now) }
     ensures answer { result_map_both names_in (λ f. f) result ≡ read_lines [] 0 [] text.now }
 {
-    let mut table = Table::new();
+    let mut table = Table::new(text);
     let mut rest = text;
     while !rest.is_empty() {
-        // it fits into 32 bits: no text that is read has more than 16,384 bytes
         let place = text.len() - rest.len();
-        rest = take_line(&mut table, rest, place as u32)?;
+        rest = take_line(&mut table, rest, place)?;
     }
     Ok(table)
 }
@@ -78,12 +82,15 @@ impl<'a> TryFrom<&'a [u8]> for Vocabulary<'a> {
 
     ghost try_from_gives = { λ text result. result_map_both names_of (λ f. f) result ≡ read_names text.now };
 
-    fn try_from(text: &'a [u8]) -> Result<Vocabulary<'a>, Fault> {
+    fn try_from(text: &'a [u8]) -> Result<Vocabulary<'a>, Fault>
+        ensures gives { result_map_both names_of (λ f. f) result ≡ read_names text.now }
+        ensures theorem { Accepts }
+    {
         if text.is_empty() || text.len() > MOST_BYTES {
             return Err(Question::VocabularySize.at(0));
         }
         let table = read_lines(text)?;
-        Ok(Vocabulary { text, table })
+        Ok(Vocabulary { table })
     }
 }
 
@@ -93,8 +100,7 @@ impl<'a> Vocabulary<'a> {
         ensures answer { names_of result ≡ [] }
     {
         Vocabulary {
-            text: &[],
-            table: Table::new(),
+            table: Table::new(&[]),
         }
     }
 
