@@ -74,11 +74,11 @@ any_local f g (suc d) h =
     let b = h (suc d) (omega arith) in
     (λ i. b i || a i)
 
-link_local : (x : Axis) (f g : ℕ → Bool) (d : ℕ) → ((e : ℕ) → e ≤ d → f e ≡ g e) → linked x f d ≡ linked x g d
+pub link_local : (x : Axis) (f g : ℕ → Bool) (d : ℕ) → ((e : ℕ) → e ≤ d → f e ≡ g e) → linked x f d ≡ linked x g d
 link_local Child f g d h = h d (omega arith)
 link_local Descendant f g d h = any_local f g d h
 
-reaches_local : (ss ts : List Step) (p q : List ℕ) (k e : ℕ) → ((j : ℕ) → j < k → get_or ss j blank ≡ get_or ts j blank) → ((j : ℕ) → j < e → get_or p j 0 ≡ get_or q j 0) → reaches ss p k e ≡ reaches ts q k e
+pub reaches_local : (ss ts : List Step) (p q : List ℕ) (k e : ℕ) → ((j : ℕ) → j < k → get_or ss j blank ≡ get_or ts j blank) → ((j : ℕ) → j < e → get_or p j 0 ≡ get_or q j 0) → reaches ss p k e ≡ reaches ts q k e
 reaches_local ss ts p q zero e hs hp = refl
 reaches_local ss ts p q (suc k) zero hs hp = refl
 reaches_local ss ts p q (suc k) (suc e) hs hp =

@@ -2,3 +2,4 @@ pub mod Turns
 pub mod Words
 pub mod Forth
 pub mod Back
+pub mod Lengths
